@@ -1,1 +1,5 @@
+pub mod FrozenImage
+pub mod PairHome
+pub mod Pairs
+pub mod WordHome
 pub mod Words

@@ -1,6 +1,6 @@
 ghost use mathlib.Core.Path.{_≡_};
 ghost use mathlib.Core.List.{List};
-ghost use Prim.Native.Nat.{ℕ, _≤_};
+ghost use Prim.Native.Nat.{ℕ, min, _≤_};
 ghost use lib.ListN.{length};
 ghost use Rattle.home.specs.Words.{readAt, writeAt, written};
 use model::refusal::Refusal;
@@ -25,4 +25,15 @@ pub trait Home: Source {
     fn write(&mut self, cell: u32, word: u32) -> Result<(), Refusal>
         ensures answer { λ r. ⌜ r ≡ writeAt (words (now (self .entry))) cell ⌝ }
         ensures after { λ _. ⌜ words (now (self .exit)) ≡ written (words (now (self .entry))) cell word ⌝ };
+}
+
+// How many of the words that are at hand count.
+pub(crate) fn at_most(words: usize) -> u32
+    ensures { λ r. ⌜ r ≡ min 65536 words ⌝ }
+{
+    if words < 65_536 {
+        words as u32
+    } else {
+        MOST_CELLS
+    }
 }
