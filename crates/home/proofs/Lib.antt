@@ -1,3 +1,5 @@
+pub mod Answers
 pub mod Images
 pub mod Kept
 pub mod Lists
+pub mod Overlays

@@ -1,3 +1,4 @@
+pub mod Buffer
 pub mod FrozenImage
 pub mod PairHome
 pub mod Pairs
