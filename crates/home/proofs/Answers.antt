@@ -30,11 +30,11 @@ pub written-back : (ws : List ℕ) (c w : ℕ) → readAt (written ws c w) c ≡
 written-back ws c w =
     ap (λ n. cond (ltb c n) (Ok (getD (written ws c w) c 0)) (Err NoSuchCell)) (written-length ws c w)
     ∙ ⊎-elim
-      (λ (h : c < length ws). ap (λ v. cond (ltb c (length ws)) (Ok v) (Err NoSuchCell)) (ap (λ l. getD l c 0) (written-set ws c w) ∙ getD-set-same ws c w 0 h))
-      (λ (h : length ws ≤ c).
-        cond-false (ltb c (length ws)) (Ok (getD (written ws c w) c 0)) (Err NoSuchCell) (le-ltb c (length ws) h)
-        ∙ sym (cond-false (ltb c (length ws)) (Ok w) (Err NoSuchCell) (le-ltb c (length ws) h)))
-      (cases-lt c (length ws))
+    (λ (h : c < length ws). ap (λ v. cond (ltb c (length ws)) (Ok v) (Err NoSuchCell)) (ap (λ l. getD l c 0) (written-set ws c w) ∙ getD-set-same ws c w 0 h))
+    (λ (h : length ws ≤ c).
+    cond-false (ltb c (length ws)) (Ok (getD (written ws c w) c 0)) (Err NoSuchCell) (le-ltb c (length ws) h)
+    ∙ sym (cond-false (ltb c (length ws)) (Ok w) (Err NoSuchCell) (le-ltb c (length ws) h)))
+    (cases-lt c (length ws))
 
 pub written-others : (ws : List ℕ) (c w : ℕ) → OthersKept ws (written ws c w) c
 written-others ws c w k ne =

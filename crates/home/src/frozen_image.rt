@@ -1,5 +1,5 @@
 ghost use mathlib.Core.Path.{_≡_};
-ghost use Prim.Native.Nat.{_<_, _≤_};
+ghost use Prim.Native.Nat.{_+_, _*_, _<_, _≤_};
 ghost use denote.Ref.{now};
 ghost use lib.ListN.{length, getD};
 ghost use Rattle.home.specs.FrozenImage.{imageOf};
@@ -33,7 +33,13 @@ fn word_of_image(bytes: &[u8], cell: u32) -> u32
     ensures { λ r. ⌜ r ≡ getD (imageOf (now (bytes .entry))) cell 0 ⌝ }
 {
     let at = 4 * cell as usize;
-    u32::from_be_bytes([bytes[at], bytes[at + 1], bytes[at + 2], bytes[at + 3]])
+    word_of_bytes(bytes[at], bytes[at + 1], bytes[at + 2], bytes[at + 3])
+}
+
+fn word_of_bytes(a: u8, b: u8, c: u8, d: u8) -> u32
+    ensures { λ r. ⌜ r ≡ a * 16777216 + b * 65536 + c * 256 + d ⌝ }
+{
+    u32::from_be_bytes([a, b, c, d])
 }
 
 pub impl Source for FrozenImage<'_> as FrozenImageSource {

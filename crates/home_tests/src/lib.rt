@@ -5,14 +5,14 @@ ghost use Rattle.home.specs.Words.{readBack};
 ghost use Rattle.home.specs.WordHome.{counted, listed};
 ghost use Rattle.home.specs.PairHome.{sizeFor};
 use home::holding_buffer::HoldingBuffer;
+use home::holding_buffer::HoldingBufferHome;
 use home::pair_home::PairHome;
+use home::pair_home::calls::PairHomeHome;
 use home::read_back::write_and_read;
 use home::source::Home;
 use home::word_home::WordHome;
-use model::refusal::Refusal;
-use home::holding_buffer::HoldingBufferHome;
-use home::pair_home::calls::PairHomeHome;
 use home::word_home::WordHomeHome;
+use model::refusal::Refusal;
 
 #[cfg(test)]
 mod tests;

@@ -22,6 +22,7 @@ use model::refusal::RefusalPartialEq;
 use std::test::*;
 
 const NONE: Result<u32, Refusal> = Err(Refusal::NoSuchCell);
+
 const REFUSED: Result<(), Refusal> = Err(Refusal::NoSuchCell);
 
 // A read is refused at the size, just past it and far past it.
@@ -154,7 +155,10 @@ fn a_buffer_holds_back_and_sends() -> Result<(), Fail> {
     check_eq(buffer.write(11, 7), Ok(()))?;
     check_eq(buffer.below().read(3), Ok(580))?;
     check_eq(buffer.below().read(11), Ok(0))?;
-    unwritten_outside(&mut buffer, &[0, 0, 0, 580, 0, 0, 0, 0, 0, 0, 0, 7, 0, 0, 0, 0])?;
+    unwritten_outside(
+        &mut buffer,
+        &[0, 0, 0, 580, 0, 0, 0, 0, 0, 0, 0, 7, 0, 0, 0, 0],
+    )?;
     check_eq(buffer.below().read(11), Ok(0))
 }
 

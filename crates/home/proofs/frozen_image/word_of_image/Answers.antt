@@ -16,4 +16,4 @@ pub index-bytes-at-4 : need.index-bytes-at-4
 index-bytes-at-4 c = omega (arith, image-length (c .args .bytes .now))
 
 pub returns : need.returns
-returns c = c .from-be-bytes .ensures ∙ sym (image-at (c .args .bytes .now) (c .args .cell) (omega (arith, image-length (c .args .bytes .now))))
+returns c = c .word-of-bytes .ensures ∙ sym (image-at (c .args .bytes .now) (c .args .cell) (omega (arith, image-length (c .args .bytes .now))))

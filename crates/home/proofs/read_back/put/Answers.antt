@@ -10,5 +10,5 @@ returns g c =
     record {
       back = ap (λ l. readAt l (c .args .cell)) (c .write .ensures .after) ∙ written-back ws (c .args .cell) (c .args .word);
       others = subst (λ l. OthersKept ws l (c .args .cell)) (sym (c .write .ensures .after)) (written-others ws (c .args .cell) (c .args .word));
-      size = ap length (c .write .ensures .after) ∙ written-length ws (c .args .cell) (c .args .word)
+      size = ap length (c .write .ensures .after) ∙ written-length ws (c .args .cell) (c .args .word);
     }
