@@ -1,0 +1,40 @@
+ghost use mathlib.Core.Path.{_≡_};
+ghost use mathlib.Core.List.{List};
+ghost use Prim.Native.Nat.{ℕ, _≤_};
+ghost use Rattle.model.specs.declared.carry.Carry.{Carry};
+ghost use Rattle.path.specs.Lines.{startAt, started, newestAt, countAt, Landed, Proper};
+use model::carry::Carry;
+use model::refusal::Refusal;
+
+// The way that write backs take from the boards to the memory. A path means eight lines of carries, one for each
+// board and each in the order started; the carries of one board and one cell are a lane. Within a lane nothing
+// overtakes; which lane lands next is the path's own choice.
+pub trait Path {
+    // How many carries a line holds at most: with so many, the next is refused.
+    const LENGTH: u32;
+
+    // The same number for the contracts, which cannot name the constant.
+    ghost long: { ℕ };
+
+    law some: { (1 ≤ long) × (long ≤ 8) };
+
+    ghost lines: { Self → List (List Carry) };
+
+    law proper: { (p : Self) → Proper long (lines p) };
+
+    fn capacity() -> u32
+        ensures { λ r. ⌜ r ≡ long ⌝ };
+
+    fn start(&mut self, carry: Carry) -> Result<(), Refusal>
+        ensures answer { λ r. ⌜ r ≡ startAt long (lines (now (self .entry))) carry ⌝ }
+        ensures after { λ _. ⌜ lines (now (self .exit)) ≡ started long (lines (now (self .entry))) carry ⌝ };
+
+    fn land(&mut self) -> Option<Carry>
+        ensures { λ r. ⌜ Landed (lines (now (self .entry))) r (lines (now (self .exit))) ⌝ };
+
+    fn newest(&self, board: u32, cell: u32) -> Result<Option<Carry>, Refusal>
+        ensures { λ r. ⌜ r ≡ newestAt (lines (now (self .entry))) board cell ⌝ };
+
+    fn count(&self, board: u32) -> Result<u32, Refusal>
+        ensures { λ r. ⌜ r ≡ countAt (lines (now (self .entry))) board ⌝ };
+}
