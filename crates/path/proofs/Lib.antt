@@ -1,3 +1,4 @@
 pub mod ByBoard
+pub mod Lanes
 pub mod Newest
 pub mod Rows
