@@ -1,0 +1,2 @@
+// The path that lands by turns.
+pub mod rota;
