@@ -31,11 +31,11 @@ all-taken (p ∷ ps) h =
 pub stands-more : (ps : List Place) (i c : ℕ) → i < length ps → holds (getD ps i Empty) c ≡ false → standsIn (drop i ps) c ≡ standsIn (drop (i + 1) ps) c
 stands-more ps i c h e = at-drop-more (λ l. standsIn l c) ps i Empty h ∙ ap (λ b. b || standsIn (drop (i + 1) ps) c) e
 
-pub absent : (ps : List Place) (c : ℕ) → standsIn ps c ≡ false → entryIn ps c ≡ Entry.Absent
-absent [] c e = refl
-absent (p ∷ ps) c e =
+pub invalid : (ps : List Place) (c : ℕ) → standsIn ps c ≡ false → entryIn ps c ≡ Entry.Invalid
+invalid [] c e = refl
+invalid (p ∷ ps) c e =
     let parts = or-parts (holds p c) (standsIn ps c) e in
-    cond-false (holds p c) (entryOf p) (entryIn ps c) (parts .0) ∙ absent ps c (parts .1)
+    cond-false (holds p c) (entryOf p) (entryIn ps c) (parts .0) ∙ invalid ps c (parts .1)
 
 nowhere : (ps : List Place) (c : ℕ) → standsIn ps c ≡ false → (j : ℕ) → holds (getD ps j Empty) c ≡ false
 nowhere [] c e j = refl
@@ -94,7 +94,7 @@ module _ (ps : List Place) (c i : ℕ) (e : Entry) (d : Distinct ps) (o : Offere
   new = placeFor c e
 
   new-holds : (q : Place) → clash (placeFor c e) q ≡ true → holds q c ≡ true
-  new-holds q h = elim e as (λ x. clash (placeFor c x) q ≡ true → holds q c ≡ true) [ Entry.Absent ↦ λ k. grind arith | Entry.Clean w ↦ λ k. k | Entry.Dirty w ↦ λ k. k ] h
+  new-holds q h = elim e as (λ x. clash (placeFor c x) q ≡ true → holds q c ≡ true) [ Entry.Invalid ↦ λ k. grind arith | Entry.Clean w ↦ λ k. k | Entry.Dirty w ↦ λ k. k ] h
 
   here : standsIn ps c ≡ true → holds (getD ps i Empty) c ≡ true
   here s = sym (cond-true (standsIn ps c) (holds (getD ps i Empty) c) (vacant ps i) s) ∙ o .1

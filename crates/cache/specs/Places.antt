@@ -24,12 +24,12 @@ isTaken (Place.Clean d w) = true
 isTaken (Place.Dirty d w) = true
 
 abbrev pub entryOf : Place → Entry
-entryOf Place.Empty = Entry.Absent
+entryOf Place.Empty = Entry.Invalid
 entryOf (Place.Clean d w) = Entry.Clean w
 entryOf (Place.Dirty d w) = Entry.Dirty w
 
 abbrev pub placeFor : ℕ → Entry → Place
-placeFor c Entry.Absent = Place.Empty
+placeFor c Entry.Invalid = Place.Empty
 placeFor c (Entry.Clean w) = Place.Clean c w
 placeFor c (Entry.Dirty w) = Place.Dirty c w
 
@@ -37,7 +37,7 @@ placeFor c (Entry.Dirty w) = Place.Dirty c w
 
 -- the entry of cell c
 abbrev pub entryIn : List Place → ℕ → Entry
-entryIn [] c = Entry.Absent
+entryIn [] c = Entry.Invalid
 entryIn (p ∷ ps) c = cond (holds p c) (entryOf p) (entryIn ps c)
 
 -- whether cell c stands in some place

@@ -16,7 +16,7 @@ impl Place {
         ensures { λ r. ⌜ r ≡ placeFor cell entry ⌝ }
     {
         match entry {
-            Entry::Absent => Place::Empty,
+            Entry::Invalid => Place::Empty,
             Entry::Clean(word) => Place::Clean { cell, word },
             Entry::Dirty(word) => Place::Dirty { cell, word },
         }
@@ -26,7 +26,7 @@ impl Place {
         ensures { λ r. ⌜ r ≡ entryOf self ⌝ }
     {
         match self {
-            Place::Empty => Entry::Absent,
+            Place::Empty => Entry::Invalid,
             Place::Clean { word, .. } => Entry::Clean(word),
             Place::Dirty { word, .. } => Entry::Dirty(word),
         }
