@@ -71,6 +71,12 @@ replace-at (p ∷ ps) c (suc i) q d e =
     cond-false (holds p c) (q ∷ ps) (p ∷ replaceIn ps c q) h ∙ ap (λ l. p ∷ l) (replace-at ps c i q (distinct-rest p ps d) e))
     (cases-bool (holds p c))
 
+pub replace-nowhere : (ps : List Place) (c : ℕ) (q : Place) → standsIn ps c ≡ false → replaceIn ps c q ≡ ps
+replace-nowhere [] c q e = refl
+replace-nowhere (p ∷ ps) c q e =
+    let parts = or-parts (holds p c) (standsIn ps c) e in
+    cond-false (holds p c) (q ∷ ps) (p ∷ replaceIn ps c q) (parts .0) ∙ ap (λ l. p ∷ l) (replace-nowhere ps c q (parts .1))
+
 -- what the looks answer
 
 pub entry-found : (ps : List Place) (c i : ℕ) → Distinct ps → Found ps c (Some i) → entryOf (getD ps i Empty) ≡ entryIn ps c
@@ -122,3 +128,9 @@ module _ (ps : List Place) (c i : ℕ) (e : Entry) (d : Distinct ps) (o : Offere
 
   pub stored-distinct : Distinct (set ps i new)
   stored-distinct = distinct-set ps i new (o .0) d fits
+
+-- an entry renewed where the cell stands
+pub store-stands : (ps qs : List Place) (c i : ℕ) (e : Entry) → holds (getD ps i Empty) c ≡ true → storeIn i ps c e ≡ Some qs → qs ≡ replaceIn ps c (placeFor c e)
+store-stands ps qs c i e h s =
+    let known = sym (cond-true (standsIn ps c) (Some (replaceIn ps c (placeFor c e))) (cond (vacant ps i) (Some (set ps i (placeFor c e))) None) (stands ps c i h)) ∙ s in
+    cc

@@ -3,7 +3,7 @@ ghost use Prim.Native.Nat.{_<_};
 ghost use lib.ListN.{replicate};
 ghost use Rattle.std.specs.Options.{mapped};
 ghost use Rattle.std.specs.declared.option.Option.the-variants.{Some};
-ghost use Rattle.cache.specs.Places.{entryOf, entryIn, takenIn, storeIn, Stored, Offered, OfferedAt};
+ghost use Rattle.cache.specs.Places.{entryOf, entryIn, takenIn, storeIn, replaceIn, placeFor, Stored, Offered, OfferedAt};
 ghost use Rattle.cache.specs.Caches.{tableOf};
 ghost use Rattle.cache.specs.declared.place.Place.the-variants.{Empty};
 use super::Cache;
@@ -41,6 +41,22 @@ impl Cache {
     {
         let at = self.place_for(cell)?;
         Some(self.with(at, cell, entry))
+    }
+
+    // The cache with another entry for a cell that it has; nothing changes where it has none.
+    pub fn replace(self, cell: u32, entry: Entry) -> Cache
+        ensures { λ r. ⌜ tableOf r ≡ replaceIn (tableOf self) cell (placeFor cell entry) ⌝ }
+    {
+        self.renewed(cell, entry)
+    }
+
+    fn renewed(self, cell: u32, entry: Entry) -> Cache
+        ensures { λ r. ⌜ tableOf r ≡ replaceIn (tableOf self) cell (placeFor cell entry) ⌝ }
+    {
+        match self.places.find(cell) {
+            Some(at) => self.with(at, cell, entry),
+            None => self,
+        }
     }
 
     // The place where the cell stands, or an empty one.
