@@ -1,7 +1,7 @@
 -- A bench as its rules see it.
 use mathlib.Core.List.{List, []}
-use Prim.Native.Nat.{ℕ}
-use lib.ListN.{getD, set}
+use Prim.Native.Nat.{ℕ, min}
+use lib.ListN.{length, getD, set}
 use Rattle.std.specs.declared.option.Option.{Option}
 use Rattle.std.specs.declared.option.Option.the-variants.{None}
 use Rattle.model.specs.declared.carry.Carry.{Carry}
@@ -21,6 +21,10 @@ pub record State : Type 0 where
   pub owners : List (Option ℕ)
   pub words : List ℕ
   pub lines : List (List Carry)
+
+-- the cells of a bench are those of its home, at most 64
+abbrev pub cellsOf : State → ℕ
+cellsOf s = min 64 (length (s .words))
 
 abbrev pub cacheOf : State → ℕ → List Place
 cacheOf s b = getD (s .caches) b []

@@ -4,7 +4,7 @@ use mathlib.Core.List.{List, [], _∷_}
 use mathlib.Core.Bool.{Bool, true, false, cond, _||_}
 use Prim.Native.Nat.{ℕ}
 use lib.Dec.{eqb, ltb}
-use lib.ListN.{length, set}
+use lib.ListN.{set}
 use Rattle.std.specs.Options.{isSome}
 use Rattle.std.specs.declared.option.Option.{Option}
 use Rattle.std.specs.declared.option.Option.the-variants.{Some, None}
@@ -20,7 +20,7 @@ use Rattle.path.specs.Lines.{line, lane, oldest, newest, without, startAt, star
 use Rattle.cache.specs.declared.place.Place.{Place}
 use Rattle.cache.specs.Places.{entryIn, takenIn, storeIn}
 use Rattle.state.specs.Opening.{quiet}
-use Rattle.state.specs.States.{State, cacheOf, ownerOf, wordOf, withCache, withOwner, withWords, withLines, withEntry}
+use Rattle.state.specs.States.{State, cellsOf, cacheOf, ownerOf, wordOf, withCache, withOwner, withWords, withLines, withEntry}
 
 -- What the rules leave open: the empty place that a new entry takes, and the lane that lands.
 pub record Choice : Type 0 where
@@ -40,7 +40,7 @@ done s = Some (Answer.Done, s)
 
 -- a step of a board on a cell checks the board, then the cell
 abbrev pub checked : State → ℕ → ℕ → Outcome → Outcome
-checked s b c go = cond (ltb b (s .boards)) (cond (ltb c (length (s .words))) go (refuse Refusal.NoSuchCell s)) (refuse Refusal.NoSuchBoard s)
+checked s b c go = cond (ltb b (s .boards)) (cond (ltb c (cellsOf s)) go (refuse Refusal.NoSuchCell s)) (refuse Refusal.NoSuchBoard s)
 
 -- a new entry takes an empty place, if the board may have one more
 abbrev pub kept : State → ℕ → Answer → Option (List Place) → Outcome
