@@ -3,7 +3,7 @@ use mathlib.Core.Path.{_≡_, refl, sym, ap, _∙_}
 use mathlib.Core.List.{List}
 use mathlib.Core.Bool.{Bool, true, false, cond}
 use Prim.Native.Nat.{ℕ}
-use lib.Dec.{ltb}
+use lib.Dec.{eqb, ltb}
 use lib.ListN.{set}
 use Rattle.std.specs.declared.option.Option.{Option}
 use Rattle.std.specs.declared.option.Option.the-variants.{Some, None}
@@ -16,12 +16,13 @@ use Rattle.model.specs.declared.entry.Entry.{Entry}
 use Rattle.model.specs.declared.refusal.Refusal.{Refusal}
 use Rattle.path.specs.Lines.{startAt, started, ifStarted, line, joined}
 use Rattle.cache.specs.declared.place.Place.{Place}
-use Rattle.cache.specs.Places.{takenIn, storeIn, Stored}
-use Rattle.state.specs.States.{State, cacheOf, withCache, withEntry, withLines}
-use Rattle.state.specs.Steps.{Choice, kept, newEntry, refuse, done, carryOf, sent, send}
-use Rattle.engine.specs.Parts.{Added}
+use Rattle.cache.specs.Places.{entryIn, takenIn, storeIn, Stored}
+use Rattle.state.specs.States.{State, cacheOf, withCache, withOwner, withEntry, withLines}
+use Rattle.state.specs.Steps.{Choice, kept, newEntry, refuse, done, fetched, read, write, acquireFree, acquire, carryOf, sent, send}
+use Rattle.engine.specs.Parts.{Added, TakesBy, dropped, given}
+use Rattle.engine.specs.Benches.{answered, doneAnswer, wordAnswer}
 
-abbrev at : ℕ → Choice
+abbrev pub at : ℕ → Choice
 at i = record { place = i; board = 0; cell = 0 }
 
 -- a new entry
@@ -59,3 +60,39 @@ module _ (s : State) (b c w : ℕ) (e : Entry) where
   pub sent-started : (ls : List (List Carry)) (t : State) → Ok tt ≡ start → ls ≡ started (s .long) (s .lines) carry → t ≡ withEntry (withLines s ls) b c e → send s b c w e ≡ Some (Answer.Done, t)
   sent-started ls t h q m =
       ap (λ z. sent z s b c w e) (sym h) ∙ ap (λ z. Some (Answer.Done, withLines (withEntry s b c e) z)) (sym q) ∙ ap (λ z. Some (Answer.Done, z)) (sym m)
+
+-- a step on an entry
+
+answered-word : (w : ℕ) (r : Result (Unit {0}) Refusal) → answered (Answer.Word w) r ≡ wordAnswer (given w r)
+answered-word w (Ok u) = refl
+answered-word w (Err e) = refl
+
+module _ (s : State) (b c : ℕ) where
+  pub read-missing : (e : Entry) (w : ℕ) (r : Result (Unit {0}) Refusal) (t : State) → e ≡ Entry.Invalid → w ≡ fetched s b c → Added s b c (Entry.Clean w) r t → TakesBy (λ k. read k s b c e) (wordAnswer (given w r)) t
+  read-missing e w r t q f a =
+      (a .0,
+      ap (read (a .0) s b c) q
+      ∙ ap (λ v. newEntry (a .0) s b c (Answer.Word v) (Entry.Clean v)) (sym f)
+      ∙ a .1 (Answer.Word w)
+      ∙ ap (λ x. Some (x, t)) (answered-word w r))
+
+  pub write-missing : (w : ℕ) (e : Entry) (r : Result (Unit {0}) Refusal) (t : State) → e ≡ Entry.Invalid → Added s b c (Entry.Dirty w) r t → TakesBy (λ k. write k s b c w e) (doneAnswer r) t
+  write-missing w e r t q a = (a .0, ap (write (a .0) s b c w) q ∙ a .1 Answer.Done)
+
+  pub write-valid : (w : ℕ) (e : Entry) (t : State) → (e ≡ Entry.Invalid → ⊥) → t ≡ withEntry s b c (Entry.Dirty w) → TakesBy (λ k. write k s b c w e) Answer.Done t
+  write-valid w Entry.Invalid t n q = absurd (n refl)
+  write-valid w (Entry.Clean v) t n q = (at 0, ap done (sym q))
+  write-valid w (Entry.Dirty v) t n q = (at 0, ap done (sym q))
+
+  free-cases : (e : Entry) → acquireFree s b c e ≡ done (withOwner (dropped s b c e) c (Some b))
+  free-cases Entry.Invalid = refl
+  free-cases (Entry.Clean w) = refl
+  free-cases (Entry.Dirty w) = refl
+
+  pub acquire-free : (u t : State) → u ≡ dropped s b c (entryIn (cacheOf s b) c) → t ≡ withOwner u c (Some b) → acquire s b c None ≡ Some (Answer.Done, t)
+  acquire-free u t p q = free-cases (entryIn (cacheOf s b) c) ∙ ap (λ z. done (withOwner z c (Some b))) (sym p) ∙ ap done (sym q)
+
+pub acquire-held : (s : State) (o b : ℕ) (r : Refusal) → r ≡ cond (eqb o b) Refusal.OwnedAlready Refusal.OwnedByAnother → cond (eqb o b) (refuse Refusal.OwnedAlready s) (refuse Refusal.OwnedByAnother s) ≡ Some (Answer.Refused r, s)
+acquire-held s o b r h =
+    sym (ap (λ z. Some (Answer.Refused z, s)) h
+      ∙ elim (eqb o b) as (λ t. refuse (cond t Refusal.OwnedAlready Refusal.OwnedByAnother) s ≡ cond t (refuse Refusal.OwnedAlready s) (refuse Refusal.OwnedByAnother s)) [ true ↦ refl | false ↦ refl ])

@@ -5,6 +5,7 @@ use home::source::Home;
 use model::refusal::Refusal;
 use path::path::Path;
 
+mod cells;
 mod parts;
 
 // A bench over a home and a path: how many boards it has and how many entries each cache may have, or why its opening
