@@ -3,6 +3,7 @@ use mathlib.Core.Path.{_≡_, refl, sym, ap, _∙_}
 use mathlib.Core.List.{List}
 use mathlib.Core.Bool.{Bool, true, false, cond}
 use Prim.Native.Nat.{ℕ}
+use native.Mathlib.Omega.{arith}
 use lib.Dec.{eqb, ltb}
 use lib.ListN.{set}
 use Rattle.std.specs.declared.option.Option.{Option}
@@ -17,9 +18,9 @@ use Rattle.model.specs.declared.refusal.Refusal.{Refusal}
 use Rattle.path.specs.Lines.{startAt, started, ifStarted, line, joined}
 use Rattle.cache.specs.declared.place.Place.{Place}
 use Rattle.cache.specs.Places.{entryIn, takenIn, storeIn, Stored}
-use Rattle.state.specs.States.{State, cacheOf, withCache, withOwner, withEntry, withLines}
-use Rattle.state.specs.Steps.{Choice, kept, newEntry, refuse, done, fetched, read, write, acquireFree, acquire, carryOf, sent, send}
-use Rattle.engine.specs.Parts.{Added, TakesBy, dropped, given}
+use Rattle.state.specs.States.{State, cellsOf, cacheOf, withCache, withOwner, withEntry, withLines}
+use Rattle.state.specs.Steps.{Choice, Outcome, checked, kept, newEntry, refuse, done, fetched, read, write, acquireFree, acquire, carryOf, sent, send}
+use Rattle.engine.specs.Parts.{checks, Added, TakesBy, dropped, given}
 use Rattle.engine.specs.Benches.{answered, doneAnswer, wordAnswer}
 
 abbrev pub at : ℕ → Choice
@@ -96,3 +97,28 @@ pub acquire-held : (s : State) (o b : ℕ) (r : Refusal) → r ≡ cond (eqb o b
 acquire-held s o b r h =
     sym (ap (λ z. Some (Answer.Refused z, s)) h
       ∙ elim (eqb o b) as (λ t. refuse (cond t Refusal.OwnedAlready Refusal.OwnedByAnother) s ≡ cond t (refuse Refusal.OwnedAlready s) (refuse Refusal.OwnedByAnother s)) [ true ↦ refl | false ↦ refl ])
+
+-- the check of a board and a cell
+
+abbrev verdict : Bool → Bool → Result (Unit {0}) Refusal
+verdict t u = cond t (cond u (Ok tt) (Err Refusal.NoSuchCell)) (Err Refusal.NoSuchBoard)
+
+module _ (s : State) (b c : ℕ) where
+  check-refused : (t u : Bool) (x : Outcome) (e : Refusal) → Err e ≡ verdict t u → cond t (cond u x (refuse Refusal.NoSuchCell s)) (refuse Refusal.NoSuchBoard s) ≡ Some (Answer.Refused e, s)
+  check-refused true true x e h = let z : _≡_ {A = ℕ} 0 1 = cc in absurd (omega arith)
+  check-refused true false x e h = let q : Refusal.NoSuchCell ≡ e = cc in ap (λ r. refuse r s) q
+  check-refused false u x e h = let q : Refusal.NoSuchBoard ≡ e = cc in ap (λ r. refuse r s) q
+
+  check-passed : (t u : Bool) (x : Outcome) → Ok tt ≡ verdict t u → cond t (cond u x (refuse Refusal.NoSuchCell s)) (refuse Refusal.NoSuchBoard s) ≡ x
+  check-passed true true x h = refl
+  check-passed true false x h = let z : _≡_ {A = ℕ} 0 1 = cc in absurd (omega arith)
+  check-passed false u x h = let z : _≡_ {A = ℕ} 0 1 = cc in absurd (omega arith)
+
+  pub refused : (f : Choice → Outcome) (e : Refusal) → Err e ≡ checks s b c → TakesBy (λ k. checked s b c (f k)) (Answer.Refused e) s
+  refused f e h = (at 0, check-refused (ltb b (s .boards)) (ltb c (cellsOf s)) (f (at 0)) e h)
+
+  pub through : (f : Choice → Outcome) (a : Answer) (t : State) → Ok tt ≡ checks s b c → TakesBy f a t → TakesBy (λ k. checked s b c (f k)) a t
+  through f a t h m = (m .0, check-passed (ltb b (s .boards)) (ltb c (cellsOf s)) (f (m .0)) h ∙ m .1)
+
+  pub plain : (x : Outcome) (a : Answer) (t : State) → Ok tt ≡ checks s b c → x ≡ Some (a, t) → TakesBy (λ k. checked s b c x) a t
+  plain x a t h m = (at 0, check-passed (ltb b (s .boards)) (ltb c (cellsOf s)) x h ∙ m)

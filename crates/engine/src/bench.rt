@@ -5,6 +5,7 @@ use home::source::Home;
 use model::refusal::Refusal;
 use path::path::Path;
 
+mod calls;
 mod cells;
 mod parts;
 
