@@ -23,7 +23,7 @@ stateOf words lines n b =
       caches = tables (b .caches);
       owners = b .owners .of;
       words = words (b .home);
-      lines = lines (b .path)
+      lines = lines (b .path);
     }
 
 abbrev pub answered : Answer → Result (Unit {0}) Refusal → Answer

@@ -1,6 +1,6 @@
 ghost use Prim.Native.Nat.{_≤_};
-use cache::caches::Caches;
 use crate::owners::Owners;
+use cache::caches::Caches;
 use home::source::Home;
 use model::refusal::Refusal;
 use path::path::Path;

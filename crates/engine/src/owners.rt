@@ -19,7 +19,11 @@ impl Owners {
     pub(crate) fn of(&self, cell: u32) -> Option<u32>
         ensures { λ r. ⌜ r ≡ getD (now (self .entry) .of) cell None ⌝ }
     {
-        if cell < 64 { self.of[cell as usize] } else { None }
+        if cell < 64 {
+            self.of[cell as usize]
+        } else {
+            None
+        }
     }
 
     pub(crate) fn put(&mut self, cell: u32, owner: Option<u32>)

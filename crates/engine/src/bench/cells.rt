@@ -44,7 +44,13 @@ impl<H: Home, P: Path> Bench<H, P> {
         self.add(board, cell, Entry::Clean(word))
     }
 
-    pub(crate) fn write_entry(&mut self, board: u32, cell: u32, word: u32, entry: Entry) -> Result<(), Refusal>
+    pub(crate) fn write_entry(
+        &mut self,
+        board: u32,
+        cell: u32,
+        word: u32,
+        entry: Entry,
+    ) -> Result<(), Refusal>
         requires { ⌜ checks (stateOf (H·Source .words) (P·Path .lines) (P·Path .long) (now self)) board cell ≡ Ok tt ⌝ }
         ensures { λ r. ⌜ TakesBy (λ k. write k (stateOf (H·Source .words) (P·Path .lines) (P·Path .long) (now (self .entry))) board cell word entry) (doneAnswer r) (stateOf (H·Source .words) (P·Path .lines) (P·Path .long) (now (self .exit))) ⌝ }
     {
@@ -65,7 +71,12 @@ impl<H: Home, P: Path> Bench<H, P> {
         self.add(board, cell, Entry::Dirty(word))
     }
 
-    pub(crate) fn acquire_owned(&mut self, board: u32, cell: u32, owner: Option<u32>) -> Result<(), Refusal>
+    pub(crate) fn acquire_owned(
+        &mut self,
+        board: u32,
+        cell: u32,
+        owner: Option<u32>,
+    ) -> Result<(), Refusal>
         ensures { λ r. ⌜ acquire (stateOf (H·Source .words) (P·Path .lines) (P·Path .long) (now (self .entry))) board cell owner ≡ Some (doneAnswer r, (stateOf (H·Source .words) (P·Path .lines) (P·Path .long) (now (self .exit)))) ⌝ }
     {
         match owner {
@@ -112,7 +123,12 @@ impl<H: Home, P: Path> Bench<H, P> {
         Ok(())
     }
 
-    pub(crate) fn write_back_entry(&mut self, board: u32, cell: u32, entry: Entry) -> Result<(), Refusal>
+    pub(crate) fn write_back_entry(
+        &mut self,
+        board: u32,
+        cell: u32,
+        entry: Entry,
+    ) -> Result<(), Refusal>
         ensures { λ r. ⌜ writeBack (stateOf (H·Source .words) (P·Path .lines) (P·Path .long) (now (self .entry))) board cell entry ≡ Some (doneAnswer r, (stateOf (H·Source .words) (P·Path .lines) (P·Path .long) (now (self .exit)))) ⌝ }
     {
         match entry {
@@ -153,5 +169,9 @@ impl<H: Home, P: Path> Bench<H, P> {
 fn held_by(owner: u32, board: u32) -> Refusal
     ensures { λ r. ⌜ r ≡ cond (eqb owner board) OwnedAlready OwnedByAnother ⌝ }
 {
-    if owner == board { Refusal::OwnedAlready } else { Refusal::OwnedByAnother }
+    if owner == board {
+        Refusal::OwnedAlready
+    } else {
+        Refusal::OwnedByAnother
+    }
 }

@@ -4,10 +4,11 @@ ghost use Prim.Native.Nat.{_<_};
 ghost use lib.Dec.{ltb};
 ghost use Rattle.std.specs.declared.result.Result.the-variants.{Ok};
 ghost use Rattle.std.specs.declared.option.Option.the-variants.{Some};
+ghost use Rattle.home.specs.Words.{written};
 ghost use Rattle.path.specs.Lines.{lane, newest};
 ghost use Rattle.cache.specs.Places.{entryIn, takenIn, Stored};
 ghost use Rattle.cache.specs.Caches.{tableOf};
-ghost use Rattle.state.specs.States.{cellsOf, cacheOf, ownerOf, withEntry, withOwner};
+ghost use Rattle.state.specs.States.{cellsOf, cacheOf, ownerOf, withEntry, withOwner, withWords};
 ghost use Rattle.state.specs.Steps.{fetched, unsettled, isDirty, send};
 ghost use Rattle.engine.specs.Benches.{stateOf, doneAnswer};
 ghost use Rattle.engine.specs.Parts.{checks, Added};
@@ -133,8 +134,21 @@ impl<H: Home, P: Path> Bench<H, P> {
         }
     }
 
+    // A carry that landed is written to the home.
+    pub(crate) fn store(&mut self, carry: Carry)
+        ensures { λ _. ⌜ stateOf (H·Source .words) (P·Path .lines) (P·Path .long) (now (self .exit)) ≡ withWords (stateOf (H·Source .words) (P·Path .lines) (P·Path .long) (now (self .entry))) (written (H·Source .words (now (self .entry) .home)) (carry .cell) (carry .word)) ⌝ }
+    {
+        let _ = self.home.write(carry.cell, carry.word);
+    }
+
     // A carry of the word starts, and the cell's entry becomes as given; or the path refuses the carry.
-    pub(crate) fn send(&mut self, board: u32, cell: u32, word: u32, entry: Entry) -> Result<(), Refusal>
+    pub(crate) fn send(
+        &mut self,
+        board: u32,
+        cell: u32,
+        word: u32,
+        entry: Entry,
+    ) -> Result<(), Refusal>
         ensures { λ r. ⌜ send (stateOf (H·Source .words) (P·Path .lines) (P·Path .long) (now (self .entry))) board cell word entry ≡ Some (doneAnswer r, stateOf (H·Source .words) (P·Path .lines) (P·Path .long) (now (self .exit))) ⌝ }
     {
         match self.path.start(Carry { board, cell, word }) {
