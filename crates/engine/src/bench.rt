@@ -7,6 +7,7 @@ use path::path::Path;
 
 mod calls;
 mod cells;
+mod opening;
 mod parts;
 
 // A bench over a home and a path: how many boards it has and how many entries each cache may have, or why its opening

@@ -25,23 +25,24 @@ abbrev pub refusalOf : (boards entries : ℕ) → List ℕ → List (List Carry)
 refusalOf b e ws ls =
     cond (between b 8 && (between (length ws) 64 && between e 8)) (cond (quiet ls) None (Some Refusal.PathNotEmpty)) (Some Refusal.SizeOutOfRange)
 
--- a refused bench has no boards
-abbrev pub granted : Option Refusal → ℕ → ℕ
-granted None n = n
-granted (Some r) n = 0
-
-abbrev pub openedBy : Option Refusal → (boards entries : ℕ) → List ℕ → List (List Carry) → (long : ℕ) → State
-openedBy r b e ws ls n =
+-- empty caches, no owners, the home's words and the path's lines as they are
+abbrev pub fresh : Option Refusal → (boards entries : ℕ) → List ℕ → List (List Carry) → (long : ℕ) → State
+fresh r b e ws ls n =
     record {
       refusal = r;
-      boards = granted r b;
-      entries = granted r e;
+      boards = b;
+      entries = e;
       long = n;
       caches = replicate 8 (replicate 8 Place.Empty);
       owners = replicate 64 None;
       words = ws;
       lines = ls;
     }
+
+-- a refused bench has no boards
+abbrev pub openedBy : Option Refusal → (boards entries : ℕ) → List ℕ → List (List Carry) → (long : ℕ) → State
+openedBy None b e ws ls n = fresh None b e ws ls n
+openedBy (Some r) b e ws ls n = fresh (Some r) 0 0 ws ls n
 
 abbrev pub opened : (boards entries : ℕ) → List ℕ → List (List Carry) → (long : ℕ) → State
 opened b e ws ls n = openedBy (refusalOf b e ws ls) b e ws ls n
