@@ -60,19 +60,17 @@ module _ (p : ℕ → Bool) (n t : ℕ) where
   found-behind e = ap (λ l. nth l 0) round-parts ∙ first-none (kept-by p (counting t (n - t))) (kept-by p (counting 0 t)) e
 
 -- what it is to be the first of m numbers from a on that pass a test
-FirstIn : (ℕ → Bool) → ℕ → ℕ → Option ℕ → Type 0
+abbrev FirstIn : (ℕ → Bool) → ℕ → ℕ → Option ℕ → Type 0
 FirstIn p a m None = (j : ℕ) → a ≤ j → j < a + m → p j ≡ false
 FirstIn p a m (Some i) = (a ≤ i) × (i < a + m) × (p i ≡ true) × ((j : ℕ) → a ≤ j → j < i → p j ≡ false)
 
 module _ (p : ℕ → Bool) where
   one-before : (a m : ℕ) → p a ≡ false → (r : Option ℕ) → FirstIn p (a + 1) m r → FirstIn p a (suc m) r
-  unfolding FirstIn
   one-before a m f None h = λ j low high. ⊎-elim (λ (e : a ≡ j). ap p (sym e) ∙ f) (λ (ne : a ≡ j → ⊥). h j (omega arith) (omega arith)) (cases-eq a j)
   one-before a m f (Some i) h =
       (omega (arith, h .0), omega (arith, h .1), h .2, λ j low high. ⊎-elim (λ (e : a ≡ j). ap p (sym e) ∙ f) (λ (ne : a ≡ j → ⊥). h .3 j (omega arith) high) (cases-eq a j))
 
   first-in : (a m : ℕ) → FirstIn p a m (nth (kept-by p (counting a m)) 0)
-  unfolding FirstIn
   first-in a zero = λ j low high. absurd (omega arith)
   first-in a (suc m) =
       let rest = kept-by p (counting (a + 1) m) in
@@ -98,14 +96,13 @@ unfolding passed
 passed-behind n t i h = cond-true (ltb i t) (n - t + i) (i - t) (lt-ltb i t h)
 
 -- the first turn that passes a test, as the n turns come round from turn t
-pub FirstRound : (ℕ → Bool) → ℕ → ℕ → Option ℕ → Type 0
+abbrev pub FirstRound : (ℕ → Bool) → ℕ → ℕ → Option ℕ → Type 0
 FirstRound p n t None = (j : ℕ) → j < n → p j ≡ false
 FirstRound p n t (Some i) = (i < n) × (p i ≡ true) × ((j : ℕ) → j < n → p j ≡ true → passed n t i ≤ passed n t j)
 
 module _ (p : ℕ → Bool) (n t : ℕ) (inside : t < n) where
   -- found ahead of t
   ahead : (i : ℕ) → FirstIn p t (n - t) (Some i) → FirstRound p n t (Some i)
-  unfolding FirstIn FirstRound
   ahead i h =
       let here = passed-ahead n t i (h .0) in (
         omega (arith, h .1),
@@ -123,7 +120,6 @@ module _ (p : ℕ → Bool) (n t : ℕ) (inside : t < n) where
 
   -- nothing ahead of t, so from the start
   behind : FirstIn p t (n - t) None → (r : Option ℕ) → FirstIn p 0 t r → FirstRound p n t r
-  unfolding FirstIn FirstRound
   behind none None h = λ j in-round. ⊎-elim (λ (l : j < t). h j (omega arith) (omega arith)) (λ (l : t ≤ j). none j l (omega arith)) (cases-lt j t)
   behind none (Some i) h =
       let here = passed-behind n t i (omega (arith, h .1)) in (
@@ -211,7 +207,6 @@ some-oldest (x ∷ xs) e = refl
 
 module _ (ts : List ℕ) (every : EveryBoard ts) (ls : List (List Carry)) (eight : length ls ≡ 8) where
   pub served-by : (t : ℕ) (r : Option ℕ) → FirstRound (canLand ts ls) (length ts) t r → Served ts ls r
-  unfolding FirstRound
   served-by t None none = (
     λ b.
         ⊎-elim

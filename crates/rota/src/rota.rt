@@ -8,7 +8,8 @@ ghost use Rattle.std.specs.shelf.Maps.{nth};
 ghost use Rattle.path.specs.Held.{held, linesIn};
 ghost use Rattle.path.specs.Lines.{line, startAt, started, Landed};
 ghost use Rattle.path.specs.Tables.{Short};
-ghost use Rattle.rota.specs.Turns.{fixedTurns, waits, canLand, turnToLand, turnAfter, landing, Served};
+ghost use Rattle.rota.specs.Bound.{LandsWithin};
+ghost use Rattle.rota.specs.Turns.{fixedTurns, EveryBoard, waits, canLand, turnToLand, turnAfter, landing, Served};
 use model::carry::Carry;
 use model::refusal::Refusal;
 use path::path::Path;
@@ -68,7 +69,17 @@ fn turn_after(turns: &[u32], turn: usize) -> usize
     if turn + 1 < turns.len() { turn + 1 } else { 0 }
 }
 
+// The number of turns in a round.
+fn round() -> u32
+    ensures count { λ r. ⌜ r ≡ 16 ⌝ }
+    ensures bound { λ r. ⌜ LandsWithin r fixedTurns 4 ⌝ }
+    ensures others { λ _. ⌜ ((ts : List ℕ) (n : ℕ) → EveryBoard ts → LandsWithin (length ts) ts n) ⌝ }
+{
+    TURNS.len() as u32
+}
+
 impl Rota {
+    // A rota on which nothing waits, at its first turn.
     pub fn new() -> Self
         ensures empty { λ r. ⌜ held (r .waiting) ≡ [] ⌝ }
         ensures first { λ r. ⌜ r .turn ≡ 0 ⌝ }
@@ -77,6 +88,16 @@ impl Rota {
             waiting: Table::new(),
             turn: 0,
         }
+    }
+
+    // How many landings a carry at the head of its line waits for at most, whatever is started meanwhile: a round of
+    // turns. With other turns it would be their number, if only every board has one.
+    pub fn longest_wait() -> u32
+        ensures count { λ r. ⌜ r ≡ 16 ⌝ }
+        ensures bound { λ r. ⌜ LandsWithin r fixedTurns 4 ⌝ }
+        ensures others { λ _. ⌜ ((ts : List ℕ) (n : ℕ) → EveryBoard ts → LandsWithin (length ts) ts n) ⌝ }
+    {
+        round()
     }
 
     // The turn that the next landing serves.
