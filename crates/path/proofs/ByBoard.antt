@@ -19,7 +19,7 @@ use Rattle.std.proofs.shelf.Counted.{length-map-counting, getD-map-counting}
 use Rattle.std.proofs.shelf.Tests.{cases-eq, cases-lt, cond-true, cond-false, cond-both, cases-bool, and-parts, and-from, and-left, eq-eqb, ne-eqb, eqb-true, lt-ltb, ltb-true}
 use Rattle.model.specs.declared.carry.Carry.{Carry}
 use Rattle.path.specs.Lines.{line, ofLane, lane, oldest, without, Landed, Proper}
-use Rattle.path.specs.Tables.{lineOf, linesOf, located, Short, blank, FirstOfBoard, FirstAt, HeadAt}
+use Rattle.path.specs.Tables.{lineOf, linesOf, located, Short, blank, FirstOfBoard, FirstAt}
 
 pub lines-length : (xs : List Carry) → length (linesOf xs) ≡ 8
 unfolding linesOf
@@ -277,8 +277,7 @@ proper n xs l s =
 pub lane-of : (xs : List Carry) (b c : ℕ) → b < 8 → lane (linesOf xs) b c ≡ kept-by (ofLane b c) xs
 lane-of xs b c h = ap (kept-by (ofLane b c)) (line-of xs b h) ∙ lane-line b c xs
 
-pub head-at : (xs : List Carry) (b : ℕ) (r : Option ℕ) → FirstAt b xs r → HeadAt b xs r
-head-at xs b None none =
+pub none-first : (xs : List Carry) (b : ℕ) → lineOf b xs ≡ [] → FirstAt b xs None
+none-first xs b none =
     let empty : line (linesOf xs) b ≡ [] = ⊎-elim (λ (h : b < 8). line-of xs b h ∙ none) (λ (h : 8 ≤ b). line-past xs b h) (cases-lt b 8) in
     (sym (ap oldest empty), sym (ap (set (linesOf xs) b) (ap (drop 1) empty ∙ sym empty) ∙ set-getD (linesOf xs) b []))
-head-at xs b (Some i) at = at

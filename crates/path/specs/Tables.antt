@@ -36,12 +36,7 @@ blank = record { board = 0; cell = 0; word = 0 }
 abbrev pub FirstOfBoard : List Carry → ℕ → Type 0
 FirstOfBoard xs i = lineOf (getD xs i blank .board) (take i xs) ≡ []
 
--- the place of the first carry of board b, if there is one
+-- the place of the first carry of board b, or where there is none, what that says of the line of board b
 abbrev pub FirstAt : ℕ → List Carry → Option ℕ → Type 0
-FirstAt b xs None = lineOf b xs ≡ []
+FirstAt b xs None = (None ≡ oldest (line (linesOf xs) b)) × (linesOf xs ≡ set (linesOf xs) b (drop 1 (line (linesOf xs) b)))
 FirstAt b xs (Some i) = (i < length xs) × (getD xs i blank .board ≡ b) × FirstOfBoard xs i
-
--- the same, with what it says of the line of board b
-abbrev pub HeadAt : ℕ → List Carry → Option ℕ → Type 0
-HeadAt b xs None = (None ≡ oldest (line (linesOf xs) b)) × (linesOf xs ≡ set (linesOf xs) b (drop 1 (line (linesOf xs) b)))
-HeadAt b xs (Some i) = (i < length xs) × (getD xs i blank .board ≡ b) × FirstOfBoard xs i

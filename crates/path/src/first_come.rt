@@ -15,6 +15,7 @@ pub struct FirstCome {
 }
 
 impl FirstCome {
+    // A path on which nothing waits.
     pub fn new() -> Self
         ensures { λ r. ⌜ held (r .waiting) ≡ [] ⌝ }
     {

@@ -18,23 +18,29 @@ pub trait Path {
 
     law some: { (1 ≤ long) × (long ≤ 8) };
 
+    // The eight lines, by board.
     ghost lines: { Self → List (List Carry) };
 
     law proper: { (p : Self) → Proper long (lines p) };
 
+    // LENGTH, as a call whose contract ties it to `long`.
     fn capacity() -> u32
         ensures { λ r. ⌜ r ≡ long ⌝ };
 
+    // Starts a carry: it joins its board's line.
     fn start(&mut self, carry: Carry) -> Result<(), Refusal>
         ensures answer { λ r. ⌜ r ≡ startAt long (lines (now (self .entry))) carry ⌝ }
         ensures after { λ _. ⌜ lines (now (self .exit)) ≡ started long (lines (now (self .entry))) carry ⌝ };
 
+    // Lands the oldest carry of some lane, if anything waits.
     fn land(&mut self) -> Option<Carry>
         ensures { λ r. ⌜ Landed (lines (now (self .entry))) r (lines (now (self .exit))) ⌝ };
 
+    // The newest carry of a lane.
     fn newest(&self, board: u32, cell: u32) -> Result<Option<Carry>, Refusal>
         ensures { λ r. ⌜ r ≡ newestAt (lines (now (self .entry))) board cell ⌝ };
 
+    // How many carries wait in a line.
     fn count(&self, board: u32) -> Result<u32, Refusal>
         ensures { λ r. ⌜ r ≡ countAt (lines (now (self .entry))) board ⌝ };
 }

@@ -69,15 +69,6 @@ fn turn_after(turns: &[u32], turn: usize) -> usize
     if turn + 1 < turns.len() { turn + 1 } else { 0 }
 }
 
-// The number of turns in a round.
-fn round() -> u32
-    ensures count { λ r. ⌜ r ≡ 16 ⌝ }
-    ensures bound { λ r. ⌜ LandsWithin r fixedTurns 4 ⌝ }
-    ensures others { λ _. ⌜ ((ts : List ℕ) (n : ℕ) → EveryBoard ts → LandsWithin (length ts) ts n) ⌝ }
-{
-    TURNS.len() as u32
-}
-
 impl Rota {
     // A rota on which nothing waits, at its first turn.
     pub fn new() -> Self
@@ -97,7 +88,16 @@ impl Rota {
         ensures bound { λ r. ⌜ LandsWithin r fixedTurns 4 ⌝ }
         ensures others { λ _. ⌜ ((ts : List ℕ) (n : ℕ) → EveryBoard ts → LandsWithin (length ts) ts n) ⌝ }
     {
-        round()
+        Self::round()
+    }
+
+    // The number of turns in a round.
+    fn round() -> u32
+        ensures count { λ r. ⌜ r ≡ 16 ⌝ }
+        ensures bound { λ r. ⌜ LandsWithin r fixedTurns 4 ⌝ }
+        ensures others { λ _. ⌜ ((ts : List ℕ) (n : ℕ) → EveryBoard ts → LandsWithin (length ts) ts n) ⌝ }
+    {
+        TURNS.len() as u32
     }
 
     // The turn that the next landing serves.

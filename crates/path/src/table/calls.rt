@@ -9,7 +9,7 @@ ghost use Rattle.std.specs.shelf.Lists.{removed};
 ghost use Rattle.std.specs.shelf.Maps.{nth};
 ghost use Rattle.path.specs.Held.{held, linesIn};
 ghost use Rattle.path.specs.Lines.{line, lane, oldest, newest, joined, startAt, ifStarted, started, newestAt, countAt, Landed};
-ghost use Rattle.path.specs.Tables.{lineOf, Short, blank, FirstOfBoard, FirstAt, HeadAt};
+ghost use Rattle.path.specs.Tables.{lineOf, Short, blank, FirstOfBoard, FirstAt};
 use super::Table;
 use model::carry::Carry;
 use model::carry::CarryLocated;
@@ -51,6 +51,7 @@ fn close(carries: &mut [Carry], place: usize)
 }
 
 impl Table {
+    // A table in which nothing waits.
     pub fn new() -> Self
         ensures { λ r. ⌜ held r ≡ [] ⌝ }
     {
@@ -73,7 +74,7 @@ impl Table {
         &self.carries[0..self.used]
     }
 
-    // How many carries of a board wait.
+    // How many carries wait in the line of a board.
     fn waiting(&self, board: u32) -> u32
         requires { ⌜ board ≤ 7 ⌝ }
         ensures { λ r. ⌜ r ≡ length (line (linesIn (now (self .entry))) board) ⌝ }
@@ -106,18 +107,12 @@ impl Table {
         }
     }
 
+    // Whether nothing waits.
     fn is_empty(&self) -> bool
         ensures none { λ r. ⌜ (r ≡ true → (held (now (self .entry)) ≡ []) × Landed (linesIn (now (self .entry))) None (linesIn (now (self .entry)))) ⌝ }
         ensures some { λ r. ⌜ (r ≡ false → 0 < length (held (now (self .entry)))) ⌝ }
     {
         self.used == 0
-    }
-
-    // The place of a board's oldest carry.
-    fn first(&self, board: u32) -> Option<usize>
-        ensures { λ r. ⌜ HeadAt board (held (now (self .entry))) r ⌝ }
-    {
-        first_of(self.held(), board)
     }
 
     // Takes out a carry that no other of its board was started before.
@@ -138,6 +133,7 @@ impl Table {
         carry
     }
 
+    // Starts a carry for a path whose lines hold `length` carries at most; eight is the most that a line can hold here.
     pub fn start(&mut self, length: u32, carry: Carry) -> Result<(), Refusal>
         ensures answer { λ r. ⌜ r ≡ startAt (min length 8) (linesIn (now (self .entry))) carry ⌝ }
         ensures after { λ _. ⌜ linesIn (now (self .exit)) ≡ started (min length 8) (linesIn (now (self .entry))) carry ⌝ }
@@ -157,6 +153,7 @@ impl Table {
         Ok(())
     }
 
+    // The newest carry of a lane, which a board reads back in the memory's place.
     pub fn newest(&self, board: u32, cell: u32) -> Result<Option<Carry>, Refusal>
         ensures { λ r. ⌜ r ≡ newestAt (linesIn (now (self .entry))) board cell ⌝ }
     {
@@ -169,6 +166,7 @@ impl Table {
         Ok(self.newest_of(board, cell))
     }
 
+    // How many carries wait in a line.
     pub fn count(&self, board: u32) -> Result<u32, Refusal>
         ensures { λ r. ⌜ r ≡ countAt (linesIn (now (self .entry))) board ⌝ }
     {
@@ -190,14 +188,14 @@ impl Table {
         Some(self.remove(0))
     }
 
-    // Lands the oldest carry of a board.
+    // Lands the oldest carry of a board; there is none on a board that does not exist.
     pub fn land_of(&mut self, board: u32) -> Option<Carry>
         ensures answer { λ r. ⌜ r ≡ oldest (line (linesIn (now (self .entry))) board) ⌝ }
         ensures after { λ _. ⌜ linesIn (now (self .exit)) ≡ set (linesIn (now (self .entry))) board (drop 1 (line (linesIn (now (self .entry))) board)) ⌝ }
         ensures landed { λ r. ⌜ (isSome r ≡ true → Landed (linesIn (now (self .entry))) r (linesIn (now (self .exit)))) ⌝ }
         ensures short { λ _. ⌜ ((n : ℕ) → Short n (held (now (self .entry))) → Short n (held (now (self .exit)))) ⌝ }
     {
-        match self.first(board) {
+        match first_of(self.held(), board) {
             None => None,
             Some(place) => Some(self.remove(place)),
         }

@@ -6,6 +6,7 @@ use Rattle.std.proofs.shelf.Elements.{kept-by-more}
 use Rattle.std.proofs.shelf.Lists.{take-all}
 use Rattle.std.proofs.shelf.Tests.{cond-false, ne-eqb}
 use Rattle.path.specs.Tables.{lineOf, blank}
+use Rattle.path.proofs.ByBoard.{none-first}
 use Rattle.path.proofs.table.calls.first_of.Needs as need
 
 pub loop-i-again : need.loop-i-again
@@ -26,4 +27,7 @@ returns-then-x-board c = (
 )
 
 pub returns : need.returns
-returns c = ap (lineOf (c .args .board)) (sym (take-all (c .loop-i .i) (c .args .carries .now) (c .loop-i-test .left))) ∙ c .loop-i .inv
+returns c =
+    let b = c .args .board in
+    let xs = c .args .carries .now in
+    none-first xs b (ap (lineOf b) (sym (take-all (c .loop-i .i) xs (c .loop-i-test .left))) ∙ c .loop-i .inv)
