@@ -1,17 +1,14 @@
 -- Carries of all boards in the order started: the eight lines that they make, with one more and with one less.
 use mathlib.Core.Path.{_≡_, refl, sym, ap, subst, _∙_}
 use mathlib.Core.Logic.{_≢_, ⊎-elim}
-use mathlib.Core.List.{List, [], _∷_, _++_, map}
-use mathlib.Core.Bool.{Bool, true, false, cond, _&&_}
+use mathlib.Core.List.{List, [], _∷_, _++_}
+use mathlib.Core.Bool.{true, false, cond, _&&_}
 use Prim.Native.Nat.{ℕ, zero, suc, _+_, _*_, _<_, _≤_}
 use native.Mathlib.Omega.{arith}
 use native.Mathlib.Numerals.{add-one}
 use lib.Dec.{eqb, ltb}
 use lib.ListN.{length, getD, set, take, drop}
-use Rattle.std.specs.Iters.{counting}
 use Rattle.std.specs.shelf.Lists.{All, kept-by, removed}
-use Rattle.std.specs.shelf.Maps.{nth}
-use Rattle.std.specs.declared.option.Option.{Option}
 use Rattle.std.specs.declared.option.Option.the-variants.{Some, None}
 use Rattle.std.proofs.shelf.Lists.{getD-default, set-getD, length-set, getD-set-same, getD-set-other, ext-getD, length-push, append-nil, take-append-drop, drop-more, getD-past}
 use Rattle.std.proofs.shelf.Elements.{kept-by-append}
@@ -47,10 +44,10 @@ module _ (xs ys : List Carry) (b : ℕ) (l : List Carry) (inside : b < 8) (here 
       (λ (ne : k ≡ b → ⊥). there k ne ∙ sym (getD-set-other (linesOf xs) b k l [] ne ∙ line-of xs k k-in))
       (cases-eq k b))
 
-line-cons-same : (x : Carry) (xs : List Carry) → lineOf (x .board) (x ∷ xs) ≡ x ∷ lineOf (x .board) xs
+pub line-cons-same : (x : Carry) (xs : List Carry) → lineOf (x .board) (x ∷ xs) ≡ x ∷ lineOf (x .board) xs
 line-cons-same x xs = cond-true (eqb (x .board) (x .board)) (x ∷ lineOf (x .board) xs) (lineOf (x .board) xs) (eq-eqb (x .board) (x .board) refl)
 
-line-cons-other : (x : Carry) (xs : List Carry) (k : ℕ) → k ≢ x .board → lineOf k (x ∷ xs) ≡ lineOf k xs
+pub line-cons-other : (x : Carry) (xs : List Carry) (k : ℕ) → k ≢ x .board → lineOf k (x ∷ xs) ≡ lineOf k xs
 line-cons-other x xs k ne = cond-false (eqb (x .board) k) (x ∷ lineOf k xs) (lineOf k xs) (ne-eqb (x .board) k (λ q. ne (sym q)))
 
 line-append : (k : ℕ) (xs ys : List Carry) → lineOf k (xs ++ ys) ≡ lineOf k xs ++ lineOf k ys

@@ -2,13 +2,13 @@
 use mathlib.Core.Path.{_≡_, refl, sym, ap, subst, _∙_}
 use mathlib.Core.Logic.{_≢_, ⊎-elim}
 use mathlib.Core.List.{List, [], _∷_, _++_}
-use mathlib.Core.Bool.{Bool, true, false, cond}
+use mathlib.Core.Bool.{true, false, cond}
 use Prim.Native.Nat.{ℕ, _+_, _<_, _≤_}
 use native.Mathlib.Omega.{arith}
 use lib.Dec.{eqb, ltb}
 use lib.ListN.{length, getD, set, take}
 use Rattle.std.specs.shelf.Lists.{kept-by}
-use Rattle.std.specs.declared.option.Option.the-variants.{Some, None}
+use Rattle.std.specs.declared.option.Option.the-variants.{Some}
 use Rattle.std.specs.declared.result.Result.{Result}
 use Rattle.std.specs.declared.result.Result.the-variants.{Ok, Err}
 use Rattle.std.proofs.shelf.Elements.{kept-by-append}
@@ -17,7 +17,7 @@ use Rattle.std.proofs.shelf.Tests.{cases-eq, cases-lt, cases-bool, cond-true, c
 use Rattle.model.specs.declared.carry.Carry.{Carry}
 use Rattle.model.specs.declared.refusal.Refusal.{Refusal}
 use Rattle.model.specs.declared.refusal.Refusal.the-variants.{NoSuchBoard, NoSuchCell, LineFull}
-use Rattle.path.specs.Lines.{line, ofLane, lane, oldest, checked, joined, startAt, ifStarted, started, without}
+use Rattle.path.specs.Lines.{line, ofLane, lane, oldest, joined, startAt, ifStarted, without}
 use Rattle.path.specs.Lines as lines
 use Rattle.path.specs.Runs.{startReply, LandReply, Takes, Run, end, then, acceptedBy, accepted, landedBy, landed, InOrder}
 use Rattle.path.specs.declared.order.Order.{Order}
@@ -99,11 +99,10 @@ inside ls x e =
     (cases-lt (x .board) (length ls))
 
 module _ (ls ls′ : List (List Carry)) (x : Carry) (l : lines.Landed ls (Some x) ls′) where
-  less : List Carry
+  abbrev less : List Carry
   less = without (x .board) (x .cell) (line ls (x .board))
 
   own-lane : lane ls (x .board) (x .cell) ≡ kept-by (ofLane (x .board) (x .cell)) (x ∷ []) ++ lane ls′ (x .board) (x .cell)
-  unfolding less
   own-lane =
       let k = x .board in
       let d = x .cell in
@@ -113,7 +112,6 @@ module _ (ls ls′ : List (List Carry)) (x : Carry) (l : lines.Landed ls (Some x
       ∙ ap (λ m. m ++ lane ls′ k d) (sym (cond-true (ofLane k d x) (x ∷ []) [] is))
 
   same-line : (c : ℕ) → c ≢ x .cell → lane ls (x .board) c ≡ kept-by (ofLane (x .board) c) (x ∷ []) ++ lane ls′ (x .board) c
-  unfolding less
   same-line c ne =
       let k = x .board in
       sym (ap (λ m. m ++ lane ls′ k c) (kept-none k c x (other-cell k c x ne))
@@ -122,7 +120,6 @@ module _ (ls ls′ : List (List Carry)) (x : Carry) (l : lines.Landed ls (Some x
       ∙ without-other k c (x .cell) (line ls k) ne)
 
   other-line : (b c : ℕ) → b ≢ x .board → lane ls b c ≡ kept-by (ofLane b c) (x ∷ []) ++ lane ls′ b c
-  unfolding less
   other-line b c ne =
       sym (ap (λ m. m ++ lane ls′ b c) (kept-none b c x (other-board b c x ne)) ∙ ap (λ s. lane s b c) (l .1) ∙ lane-set-other ls (x .board) less b c ne)
 

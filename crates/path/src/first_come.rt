@@ -34,7 +34,7 @@ pub impl Path for FirstCome as FirstComePath {
 
     fn capacity() -> u32
         ensures value { λ r. ⌜ r ≡ 8 ⌝ }
-        ensures length { λ r. do ⌜ r ≡ (← ⟦Self::LENGTH⟧ .entry) ⌝ }
+        ensures constant { λ r. do ⌜ r ≡ (← ⟦Self::LENGTH⟧ .entry) ⌝ }
     {
         Self::LENGTH
     }

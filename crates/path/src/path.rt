@@ -6,6 +6,14 @@ ghost use Rattle.path.specs.Lines.{startAt, started, newestAt, countAt, Landed
 use model::carry::Carry;
 use model::refusal::Refusal;
 
+// A path serves so many boards, each with so many cells; both count from 0.
+pub const BOARDS: u32 = 8;
+
+pub const CELLS: u32 = 64;
+
+// The most carries that the line of any path holds.
+pub const LONGEST_LINE: u32 = 8;
+
 // The way that write backs take from the boards to the memory. A path means eight lines of carries, one for each
 // board and each in the order started; the carries of one board and one cell are a lane. Within a lane nothing
 // overtakes; which lane lands next is the path's own choice.
@@ -16,7 +24,7 @@ pub trait Path {
     // The same number for the contracts, which cannot name the constant.
     ghost long: { ℕ };
 
-    law some: { (1 ≤ long) × (long ≤ 8) };
+    law bounded: { (1 ≤ long) × (long ≤ 8) };
 
     // The eight lines, by board.
     ghost lines: { Self → List (List Carry) };

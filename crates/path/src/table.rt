@@ -7,10 +7,13 @@ use model::carry::Carry;
 
 mod calls;
 
-// The carries of all boards that wait, in the order started: room for eight of each board.
+// A place for every carry that eight full lines of eight have.
+const PLACES: usize = 64;
+
+// The carries of all boards that wait, in the order started.
 #[derive(Drop)]
 pub struct Table {
-    carries: [Carry; 64],
+    carries: [Carry; PLACES],
     used: usize,
     ghost room: { length carries ≡ 64 },
     ghost within: { used ≤ 64 },

@@ -1,30 +1,29 @@
 -- A carry at the head of its line comes nearer with every landing.
 use mathlib.Core.Path.{_≡_, refl, sym, ap, subst, _∙_}
-use mathlib.Core.Logic.{_≢_, ⊎-elim}
+use mathlib.Core.Logic.{⊎-elim}
 use mathlib.Core.List.{List, [], _∷_, _++_}
-use mathlib.Core.Bool.{Bool, true, false, cond}
-use Prim.Native.Nat.{ℕ, zero, suc, _+_, _-_, _<_, _≤_}
+use mathlib.Core.Bool.{true, false}
+use Prim.Native.Nat.{ℕ, zero, suc, _+_, _<_, _≤_}
 use native.Mathlib.Omega.{arith}
-use lib.Dec.{ltb, eqb}
 use lib.ListN.{length, getD, set, take, drop}
 use Rattle.std.specs.Vec.{listOf}
 use Rattle.std.specs.shelf.Lists.{All}
-use Rattle.std.specs.shelf.Maps.{nth}
 use Rattle.std.specs.declared.option.Option.{Option}
 use Rattle.std.specs.declared.option.Option.the-variants.{Some, None}
 use Rattle.std.specs.declared.result.Result.{Result}
 use Rattle.std.specs.declared.result.Result.the-variants.{Ok, Err}
 use Rattle.std.proofs.shelf.Elements.{all-push, all-weaker, all-drop}
 use Rattle.std.proofs.shelf.Lists.{length-set, getD-set-same, getD-set-other, getD-past}
-use Rattle.std.proofs.shelf.Tests.{cases-eq, cases-lt, both-ways, false≢true, cond-true, cond-false, eq-eqb, ne-eqb}
+use Rattle.std.proofs.shelf.Tests.{cases-eq, cases-lt, both-ways, false≢true}
 use Rattle.model.specs.declared.carry.Carry.{Carry}
 use Rattle.model.specs.declared.refusal.Refusal.{Refusal}
-use Rattle.path.specs.Lines.{line, oldest, joined, startAt, ifStarted, started, Proper}
+use Rattle.path.specs.Lines.{line, oldest, joined, startAt, ifStarted, started}
 use Rattle.path.specs.Tables.{lineOf}
 use Rattle.path.specs.declared.order.Order.{Order}
 use Rattle.path.specs.declared.order.Order.the-variants.{Start, Land}
+use Rattle.path.proofs.ByBoard.{line-cons-same, line-cons-other}
 use Rattle.rota.specs.Bound.{landings, LandsWithin}
-use Rattle.rota.specs.Turns.{EveryBoard, waits, canLand, turnToLand, turnAfter, landing, landingAt}
+use Rattle.rota.specs.Turns.{EveryBoard, waits, canLand, turnToLand, turnAfter, landingAt}
 use Rattle.rota.proofs.Rounds.{passed, passed-most, passed-same, after-turn, FirstRound, first-round, turn-of}
 
 -- eight lines, each with carries of its own board only
@@ -78,12 +77,6 @@ head-of : (l : List Carry) → waits l ≡ true → (y : Carry) × (m : List Car
 head-of [] e = absurd (false≢true e)
 head-of (y ∷ m) e = (y, m, refl)
 
-line-same : (b : ℕ) (y : Carry) (l : List Carry) → y .board ≡ b → oldest (lineOf b (y ∷ l)) ≡ Some y
-line-same b y l e = ap oldest (cond-true (eqb (y .board) b) (y ∷ lineOf b l) (lineOf b l) (eq-eqb (y .board) b e))
-
-line-other : (b : ℕ) (y : Carry) (l : List Carry) → y .board ≢ b → lineOf b (y ∷ l) ≡ lineOf b l
-line-other b y l ne = cond-false (eqb (y .board) b) (y ∷ lineOf b l) (lineOf b l) (ne-eqb (y .board) b ne)
-
 -- x heads the line of board b, which has turn j
 module _ (ts : List ℕ) (n b : ℕ) (x : Carry) (j : ℕ) (j-in : j < length ts) (turn : getD ts j 0 ≡ b) where
   -- where fewer than k turns are passed over until turn j, x is among the next k that land
@@ -106,18 +99,17 @@ module _ (ts : List ℕ) (n b : ℕ) (x : Carry) (j : ℕ) (j-in : j < length ts
       y-board : y .board ≡ getD ts i 0
       y-board = subst (All (λ z. z .board ≡ getD ts i 0)) heads (o .own (getD ts i 0)) .0
 
-      rest : List Carry
+      abbrev rest : List Carry
       rest = landings ts n (set ls (getD ts i 0) (drop 1 (line ls (getD ts i 0)))) (turnAfter ts i) os
 
       lands : (k : ℕ) → passed (length ts) t j < k → k ≤ length (y ∷ rest) → oldest (lineOf b (take k (y ∷ rest))) ≡ Some x
-      unfolding rest
       lands zero near enough = absurd (omega arith)
       lands (suc k) near enough =
           let c = getD ts i 0 in
           ⊎-elim
           (λ (e : c ≡ b).
           let same : y ≡ x = (let both : y ∷ ys ≡ x ∷ xs = sym heads ∙ ap (line ls) e ∙ is in cc) in
-          line-same b y (take k rest) (y-board ∙ e) ∙ ap Some same)
+          subst (λ d. oldest (lineOf d (y ∷ take k rest)) ≡ Some x) (y-board ∙ e) (ap oldest (line-cons-same y (take k rest)) ∙ ap Some same))
           (λ (ne : c ≡ b → ⊥).
           let apart : i ≡ j → ⊥ = λ e. ne (ap (λ m. getD ts m 0) e ∙ turn) in
           let less : passed (length ts) t i < passed (length ts) t j =
@@ -127,7 +119,7 @@ module _ (ts : List ℕ) (n b : ℕ) (x : Carry) (j : ℕ) (j-in : j < length ts
           (cases-eq (passed (length ts) t i) (passed (length ts) t j)) in
           let next = after-turn ts t i j t-in i-in j-in less in
           let shorter = drop 1 (line ls c) in
-          ap oldest (line-other b y (take k rest) (λ e. ne (sym y-board ∙ e)))
+          ap oldest (line-cons-other y (take k rest) b (λ e. ne (sym y-board ∙ sym e)))
           ∙ later (set ls c shorter) (turnAfter ts i) k xs (own-set ls c shorter o (all-drop (λ z. z .board ≡ c) 1 (line ls c) (o .own c))) (next .0)
           (getD-set-other ls c b shorter [] (λ e. ne (sym e)) ∙ is)
           (omega (arith, next .1)) (omega arith))
@@ -136,7 +128,6 @@ module _ (ts : List ℕ) (n b : ℕ) (x : Carry) (j : ℕ) (j-in : j < length ts
     landing-reaches : (k : ℕ) (r : Option ℕ) → FirstRound (canLand ts ls) (length ts) t r → passed (length ts) t j < k
         → k ≤ length (listOf (landingAt ts ls t r .carry) ++ landings ts n (landingAt ts ls t r .lines) (landingAt ts ls t r .turn) os)
         → oldest (lineOf b (take k (listOf (landingAt ts ls t r .carry) ++ landings ts n (landingAt ts ls t r .lines) (landingAt ts ls t r .turn) os))) ≡ Some x
-    unfolding rest
     landing-reaches k None none near enough = absurd (both-ways (canLand ts ls j) (none j j-in) can)
     landing-reaches k (Some i) found near enough =
         let head = head-of (line ls (getD ts i 0)) (found .1) in

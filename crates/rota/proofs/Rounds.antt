@@ -53,11 +53,14 @@ module _ (p : ℕ → Bool) (n t : ℕ) where
   round-parts : kept-by p (comingRound n t) ≡ kept-by p (counting t (n - t)) ++ kept-by p (counting 0 t)
   round-parts = kept-by-append p (counting t (n - t)) (counting 0 t)
 
-  pub found-ahead : (i : ℕ) → nth (kept-by p (counting t (n - t))) 0 ≡ Some i → nth (kept-by p (comingRound n t)) 0 ≡ Some i
-  found-ahead i e = ap (λ l. nth l 0) round-parts ∙ first-append (kept-by p (counting t (n - t))) (kept-by p (counting 0 t)) i e
+  pub found-ahead : (i : ℕ) → Some i ≡ nth (kept-by p (counting t (n - t))) 0 → Some i ≡ nth (kept-by p (comingRound n t)) 0
+  found-ahead i e = sym (ap (λ l. nth l 0) round-parts ∙ first-append (kept-by p (counting t (n - t))) (kept-by p (counting 0 t)) i (sym e))
 
-  pub found-behind : nth (kept-by p (counting t (n - t))) 0 ≡ None → nth (kept-by p (comingRound n t)) 0 ≡ nth (kept-by p (counting 0 t)) 0
-  found-behind e = ap (λ l. nth l 0) round-parts ∙ first-none (kept-by p (counting t (n - t))) (kept-by p (counting 0 t)) e
+  found-behind : None ≡ nth (kept-by p (counting t (n - t))) 0 → nth (kept-by p (counting 0 t)) 0 ≡ nth (kept-by p (comingRound n t)) 0
+  found-behind e = sym (ap (λ l. nth l 0) round-parts ∙ first-none (kept-by p (counting t (n - t))) (kept-by p (counting 0 t)) (sym e))
+
+  pub found-again : (r : Option ℕ) → None ≡ nth (kept-by p (counting t (n - t))) 0 → r ≡ nth (kept-by p (counting 0 (t - 0))) 0 → r ≡ nth (kept-by p (comingRound n t)) 0
+  found-again r e f = let all : t - 0 ≡ t = omega arith in f ∙ ap (λ k. nth (kept-by p (counting 0 k)) 0) all ∙ found-behind e
 
 -- what it is to be the first of m numbers from a on that pass a test
 abbrev FirstIn : (ℕ → Bool) → ℕ → ℕ → Option ℕ → Type 0
@@ -140,9 +143,9 @@ module _ (p : ℕ → Bool) (n t : ℕ) (inside : t < n) where
   first-round = go (nth (kept-by p (counting t (n - t))) 0) refl
     where
       go : (r : Option ℕ) → nth (kept-by p (counting t (n - t))) 0 ≡ r → FirstRound p n t (nth (kept-by p (comingRound n t)) 0)
-      go (Some i) e = subst (FirstRound p n t) (sym (found-ahead p n t i e)) (ahead i (subst (FirstIn p t (n - t)) e (first-in p t (n - t))))
+      go (Some i) e = subst (FirstRound p n t) (found-ahead p n t i (sym e)) (ahead i (subst (FirstIn p t (n - t)) e (first-in p t (n - t))))
       go None e =
-          subst (FirstRound p n t) (sym (found-behind p n t e))
+          subst (FirstRound p n t) (found-behind p n t (sym e))
           (behind (subst (FirstIn p t (n - t)) e (first-in p t (n - t))) (nth (kept-by p (counting 0 t)) 0) (first-in p 0 t))
 
 -- the turn after turn i: every turn that was further off than i is nearer by those passed over and by one

@@ -14,18 +14,20 @@ use Rattle.std.specs.declared.option.Option.the-variants.{Some, None}
 use Rattle.model.specs.declared.carry.Carry.{Carry}
 use Rattle.path.specs.Lines.{line, oldest, Landed}
 
--- the boards whose turns they are, by the turn's number
+-- the turns that every rota follows: whose each of them is
 abbrev pub fixedTurns : List ℕ
 fixedTurns = 0 ∷ 1 ∷ 2 ∷ 3 ∷ 4 ∷ 5 ∷ 6 ∷ 7 ∷ 0 ∷ 1 ∷ 2 ∷ 3 ∷ 0 ∷ 1 ∷ 0 ∷ 1 ∷ []
 
+-- whether board b has a turn
 abbrev pub occurs : ℕ → List ℕ → Bool
 occurs b [] = false
 occurs b (t ∷ ts) = eqb t b || occurs b ts
 
--- every board has a turn
+-- every board has one
 abbrev pub EveryBoard : List ℕ → Type 0
 EveryBoard ts = (b : ℕ) → b < 8 → occurs b ts ≡ true
 
+-- whether a line has a carry
 abbrev pub waits : List Carry → Bool
 waits [] = false
 waits (x ∷ xs) = true

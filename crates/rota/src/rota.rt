@@ -1,7 +1,7 @@
 ghost use mathlib.Core.Path.{_≡_};
 ghost use mathlib.Core.List.{[], List};
-ghost use Prim.Native.Nat.{ℕ, suc, _-_, _<_, _≤_};
-ghost use lib.ListN.{length, getD};
+ghost use Prim.Native.Nat.{ℕ, _-_, _<_, _≤_};
+ghost use lib.ListN.{length};
 ghost use Rattle.std.specs.Iters.{counting};
 ghost use Rattle.std.specs.shelf.Lists.{kept-by};
 ghost use Rattle.std.specs.shelf.Maps.{nth};
@@ -118,7 +118,7 @@ pub impl Path for Rota as RotaPath {
 
     fn capacity() -> u32
         ensures value { λ r. ⌜ r ≡ 4 ⌝ }
-        ensures length { λ r. do ⌜ r ≡ (← ⟦Self::LENGTH⟧ .entry) ⌝ }
+        ensures constant { λ r. do ⌜ r ≡ (← ⟦Self::LENGTH⟧ .entry) ⌝ }
     {
         Self::LENGTH
     }

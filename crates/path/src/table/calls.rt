@@ -10,7 +10,11 @@ ghost use Rattle.std.specs.shelf.Maps.{nth};
 ghost use Rattle.path.specs.Held.{held, linesIn};
 ghost use Rattle.path.specs.Lines.{line, lane, oldest, newest, joined, startAt, ifStarted, started, newestAt, countAt, Landed};
 ghost use Rattle.path.specs.Tables.{lineOf, Short, blank, FirstOfBoard, FirstAt};
+use super::PLACES;
 use super::Table;
+use crate::path::BOARDS;
+use crate::path::CELLS;
+use crate::path::LONGEST_LINE;
 use model::carry::Carry;
 use model::carry::CarryLocated;
 use model::refusal::Refusal;
@@ -61,7 +65,7 @@ impl Table {
             word: 0,
         };
         Table {
-            carries: [none; 64],
+            carries: [none; PLACES],
             used: 0,
         }
     }
@@ -133,20 +137,20 @@ impl Table {
         carry
     }
 
-    // Starts a carry for a path whose lines hold `length` carries at most; eight is the most that a line can hold here.
+    // Starts a carry for a path whose lines hold `length` carries at most; no path's lines hold more than eight.
     pub fn start(&mut self, length: u32, carry: Carry) -> Result<(), Refusal>
         ensures answer { λ r. ⌜ r ≡ startAt (min length 8) (linesIn (now (self .entry))) carry ⌝ }
         ensures after { λ _. ⌜ linesIn (now (self .exit)) ≡ started (min length 8) (linesIn (now (self .entry))) carry ⌝ }
         ensures behind { λ r. ⌜ held (now (self .exit)) ≡ ifStarted r (held (now (self .entry)) ++ carry ∷ []) (held (now (self .entry))) ⌝ }
         ensures short { λ _. ⌜ (Short (min length 8) (held (now (self .entry))) → Short (min length 8) (held (now (self .exit)))) ⌝ }
     {
-        if carry.board > 7 {
+        if carry.board >= BOARDS {
             return Err(Refusal::NoSuchBoard);
         }
-        if carry.cell > 63 {
+        if carry.cell >= CELLS {
             return Err(Refusal::NoSuchCell);
         }
-        if self.waiting(carry.board) >= length.min(8) {
+        if self.waiting(carry.board) >= length.min(LONGEST_LINE) {
             return Err(Refusal::LineFull);
         }
         self.push(carry);
@@ -157,10 +161,10 @@ impl Table {
     pub fn newest(&self, board: u32, cell: u32) -> Result<Option<Carry>, Refusal>
         ensures { λ r. ⌜ r ≡ newestAt (linesIn (now (self .entry))) board cell ⌝ }
     {
-        if board > 7 {
+        if board >= BOARDS {
             return Err(Refusal::NoSuchBoard);
         }
-        if cell > 63 {
+        if cell >= CELLS {
             return Err(Refusal::NoSuchCell);
         }
         Ok(self.newest_of(board, cell))
@@ -170,7 +174,7 @@ impl Table {
     pub fn count(&self, board: u32) -> Result<u32, Refusal>
         ensures { λ r. ⌜ r ≡ countAt (linesIn (now (self .entry))) board ⌝ }
     {
-        if board > 7 {
+        if board >= BOARDS {
             return Err(Refusal::NoSuchBoard);
         }
         Ok(self.waiting(board))

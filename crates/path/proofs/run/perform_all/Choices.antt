@@ -1,5 +1,5 @@
 use mathlib.Core.Path.{_≡_}
-use lib.ListN.{length, take, drop}
+use lib.ListN.{take, drop}
 use Rattle.path.specs.Runs.{Run}
 use Rattle.path.proofs.run.perform_all.Given as given
 

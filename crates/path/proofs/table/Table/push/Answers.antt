@@ -9,22 +9,20 @@ use Rattle.path.proofs.Rows.{has-room, put, put-located, put-short}
 use Rattle.path.proofs.table.Table.push.Needs as need
 
 pub index-self-self : need.index-self-self
-index-self-self c =
-    let t = c .args .self .now in
-    has-room (t .carries) (t .used) (c .args .carry) (t .room) (t .within) (t .located) (t .short) (c .pre .board) (c .pre .room)
+index-self-self c = has-room (c .args .self .now) (c .args .carry) (c .pre .board) (c .pre .room)
 
 pub ghost-self : need.ghost-self
 ghost-self c =
     let t = c .args .self .now in
     let x = c .args .carry in
-    let less = has-room (t .carries) (t .used) x (t .room) (t .within) (t .located) (t .short) (c .pre .board) (c .pre .room) in (
+    let less = has-room t x (c .pre .board) (c .pre .room) in (
       length-set (t .carries) (t .used) x ∙ t .room,
       (
         omega arith,
         (
-          put-located (t .carries) (t .used) x (t .room) (t .within) (t .located) (t .short) (c .pre .board) (c .pre .room) (c .pre .cell),
+          put-located t x (c .pre .board) (c .pre .room) (c .pre .cell),
           (
-            put-short (t .carries) (t .used) x (t .room) (t .within) (t .located) (t .short) (c .pre .board) (c .pre .room),
+            put-short t x (c .pre .board) (c .pre .room),
             tt,
           ),
         ),
@@ -35,10 +33,9 @@ pub returns : need.returns
 returns c =
     let t = c .args .self .now in
     let x = c .args .carry in
-    let xs = held t in
-    let more = put (t .carries) (t .used) x (t .room) (t .within) (t .located) (t .short) (c .pre .board) (c .pre .room) in
+    let more = put t x (c .pre .board) (c .pre .room) in
     record {
       behind = more;
-      lines = ap linesOf more ∙ lines-push xs x (omega arith);
-      short = λ n less s. subst (Short n) (sym more) (short-push n xs x s (omega (arith, ap length (line-of xs (x .board) (omega arith)))));
+      lines = ap linesOf more ∙ lines-push (held t) x (omega arith);
+      short = λ n less s. subst (Short n) (sym more) (short-push n (held t) x s (omega (arith, ap length (line-of (held t) (x .board) (omega arith)))));
     }

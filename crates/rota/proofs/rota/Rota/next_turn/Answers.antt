@@ -1,5 +1,4 @@
 use mathlib.Core.Path.{sym, subst}
-use native.Mathlib.Omega.{arith}
 use Rattle.path.specs.Held.{held, linesIn}
 use Rattle.path.proofs.ByBoard.{lines-length}
 use Rattle.rota.specs.Turns.{fixedTurns, canLand, turnToLand, Served}
