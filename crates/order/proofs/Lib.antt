@@ -1,0 +1,4 @@
+pub mod Growth
+pub mod History
+pub mod Sight
+pub mod Tests
