@@ -11,6 +11,7 @@ use Rattle.model.specs.declared.event.Action.{Action}
 use Rattle.model.specs.declared.event.Event.{Event}
 use Rattle.order.specs.Order.{At, next, more, By, WriteOf, AcquireOf, ReleaseOf, Latest, Point, initial-write, initial-release, event}
 use Rattle.order.specs.Order.{LatestRelease, some-release, no-release, Directly, initial, same-board, acquire, Before, link, chain, IsWrite, Known, Overwritten}
+use Rattle.order.specs.Laws.{Within}
 use Rattle.order.proofs.History.{none-not-some, by-events, at-within, at-old, at-new, at-inv, next-more, latest-up, latest-old, latest-new, latest-end, latest-inv, release-up, release-old, release-end, release-inv}
 
 -- x is y or comes before it
@@ -23,11 +24,6 @@ pub record Published (h : List Event) (c : ℕ) (x : Point) : Type 0 where
   pub up-to : UpTo h c x latest
 
 -- ── points of a history ──
-
-abbrev pub Within : List Event → Point → Type 0
-Within h initial-write = Unit {0}
-Within h initial-release = Unit {0}
-Within h (event n) = n < next h
 
 pub new-not-within : (h : List Event) {x : Point} → x ≡ event (next h) → Within h x → ⊥
 new-not-within h p w = let q : next h < next h = subst (Within h) p w in omega arith

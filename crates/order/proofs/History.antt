@@ -19,6 +19,12 @@ use Rattle.order.specs.Order.{LatestRelease, some-release, no-release, Directl
 pub none-not-some : {e : Event} → _≡_ {A = Option Event} None (Some e) → ⊥
 none-not-some p = let z : _≡_ {A = ℕ} 0 1 = cc in omega arith
 
+pub nothing-not-some : {n : ℕ} → _≡_ {A = Option ℕ} None (Some n) → ⊥
+nothing-not-some p = let z : _≡_ {A = ℕ} 0 1 = cc in omega arith
+
+pub some-same : {m n : ℕ} → _≡_ {A = Option ℕ} (Some m) (Some n) → m ≡ n
+some-same p = cc
+
 pub write-not-release : {a : Action} {w : ℕ} → a ≡ Action.Write w → a ≡ Action.Release → ⊥
 write-not-release p q = let z : _≡_ {A = ℕ} 0 1 = cc in omega arith
 
@@ -99,7 +105,7 @@ module _ (h : List Event) (g : Event) where
       go (inl b) = none k e p (at-within h k e b .1) b r
       go (inr (u, v)) = other (subst Kind (sym v) r)
 
-  pub latest-up : (Kind : Event → Type 0) (n m : ℕ) → n ≤ next h → Latest h Kind n m → Latest (more h g) Kind n m
+  unfoldable pub latest-up : (Kind : Event → Type 0) (n m : ℕ) → n ≤ next h → Latest h Kind n m → Latest (more h g) Kind n m
   latest-up Kind n m low r = record { event = r .event; stands = at-old h g m (r .event) (r .stands); kind = r .kind; below = r .below; last = none-up Kind m n low (r .last) }
 
   pub latest-old : (Kind : Event → Type 0) (n m : ℕ) → n ≤ next h → Latest (more h g) Kind n m → Latest h Kind n m
@@ -110,10 +116,10 @@ module _ (h : List Event) (g : Event) where
       go (inr (p, q)) = let l = r .below in absurd (omega arith)
 
   -- at the end the new event is the last of its kinds, and of no other
-  pub latest-new : (Kind : Event → Type 0) → Kind g → Latest (more h g) Kind (next (more h g)) (next h)
+  unfoldable pub latest-new : (Kind : Event → Type 0) → Kind g → Latest (more h g) Kind (next (more h g)) (next h)
   latest-new Kind kind = record { event = g; stands = at-new h g; kind = kind; below = omega (arith, next-more h g); last = λ k e p q a r. omega (arith, next-more h g) }
 
-  pub latest-end : (Kind : Event → Type 0) (m : ℕ) → (Kind g → ⊥) → Latest h Kind (next h) m → Latest (more h g) Kind (next (more h g)) m
+  unfoldable pub latest-end : (Kind : Event → Type 0) (m : ℕ) → (Kind g → ⊥) → Latest h Kind (next h) m → Latest (more h g) Kind (next (more h g)) m
   latest-end Kind m other r = record { event = r .event; stands = at-old h g m (r .event) (r .stands); kind = r .kind; below = (let l = r .below in omega (arith, next-more h g)); last = none-end Kind m other (r .last) }
 
   pub latest-inv : (Kind : Event → Type 0) (m : ℕ) → Latest (more h g) Kind (next (more h g)) m → (Kind g × (m ≡ next h)) ⊎ ((Kind g → ⊥) × Latest h Kind (next h) m)

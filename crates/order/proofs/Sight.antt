@@ -8,8 +8,9 @@ use native.Mathlib.Omega.{arith}
 use Rattle.model.specs.declared.event.Action.{Action}
 use Rattle.model.specs.declared.event.Event.{Event}
 use Rattle.order.specs.Order.{At, next, more, By, WriteOf, AcquireOf, ReleaseOf, Point, initial-write, initial-release, event, Before, IsWrite, Known, Overwritten}
+use Rattle.order.specs.Laws.{Within}
 use Rattle.order.proofs.History.{write-not-release, write-not-acquire, acquire-not-release, at-new}
-use Rattle.order.proofs.Growth.{UpTo, Published, Within, new-not-within, known-within, published-within, known-before, From, Since, before-up, before-old, before-inv, before-within, new-last, before-new, before-acquire}
+use Rattle.order.proofs.Growth.{UpTo, Published, new-not-within, known-within, published-within, known-before, From, Since, before-up, before-old, before-inv, before-within, new-last, before-new, before-acquire}
 use Rattle.order.proofs.Growth.{known-inv, known-end, known-new, known-by, known-up, published-inv, published-end, published-new, write-up, write-inv, write-old, write-within}
 
 -- a write in sight that x is before

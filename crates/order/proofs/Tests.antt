@@ -21,8 +21,9 @@ use Rattle.order.specs.declared.view.View.{View}
 use Rattle.order.specs.declared.view.Views.{Views}
 use Rattle.order.specs.Order.{eventAt, At, next, more, By, WriteOf, AcquireOf, ReleaseOf, Point, initial-write, initial-release, event, numbered, Directly, initial, same-board, acquire, Before, link, chain, no-release, IsWrite, Known, Overwritten, Readable}
 use Rattle.order.specs.Test.{later, blank, initially, viewOf, writing, joining, putting, viewing, viewsFrom, views, writerBy, writerIn, writerOf, current, readable, onBoards, ReadableDecided}
-use Rattle.order.proofs.History.{none-not-some, write-not-release, write-not-acquire, acquire-not-release, at-within, at-old, at-new, at-inv, at-same, next-more, by-events}
-use Rattle.order.proofs.Growth.{Published, Within, new-not-within, known-within, known-new, known-on, known-own}
+use Rattle.order.specs.Laws.{Within}
+use Rattle.order.proofs.History.{none-not-some, nothing-not-some, some-same, write-not-release, write-not-acquire, acquire-not-release, at-within, at-old, at-new, at-inv, at-same, next-more, by-events}
+use Rattle.order.proofs.Growth.{Published, new-not-within, known-within, known-new, known-on, known-own}
 use Rattle.order.proofs.Sight.{Over, over-known, over-either, Same, over-same, same-else, same-release, same-acquire, same-published, same-releasing, known-write, over-write, over-new}
 
 -- ── the writer of a write ──
@@ -33,12 +34,6 @@ pub record Made (h : List Event) (c n p : ℕ) : Type 0 where
   pub stands : At h n event
   pub write : WriteOf c word event
   pub board : event .board ≡ p
-
-pub nothing-not-some : {n : ℕ} → _≡_ {A = Option ℕ} None (Some n) → ⊥
-nothing-not-some p = let z : _≡_ {A = ℕ} 0 1 = cc in omega arith
-
-pub some-same : {m n : ℕ} → _≡_ {A = Option ℕ} (Some m) (Some n) → m ≡ n
-some-same p = cc
 
 pub writer-made : (h : List Event) (c n p : ℕ) → writerOf h c (suc n) ≡ Some p → Made h c (suc n) p
 writer-made h c n p q = found (eventAt h (suc n)) refl q

@@ -113,6 +113,12 @@ pub record Readable (h : List Event) (c b : ℕ) (x : Point) : Type 0 where
   pub write : IsWrite h c x
   pub current : Overwritten h c b x → ⊥
 
+-- A read of the cell by the board may answer the word w: some readable write brings it.
+pub record Legal (h : List Event) (start c b w : ℕ) : Type 0 where
+  pub write : Point
+  pub readable : Readable h c b write
+  pub brings : Brings h start c write w
+
 -- ── ownership ──
 
 -- Below the number n, the board b made the last acquire of the cell c, and no release follows it.

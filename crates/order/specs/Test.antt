@@ -5,6 +5,7 @@ use mathlib.Core.Bool.{Bool, true, false, cond, _&&_}
 use Prim.Native.Nat.{ℕ, zero, suc, _<_, max}
 use lib.ListN.{length, getD, set, replicate}
 use lib.Dec.{eqb, ltb, leb}
+use mathlib.Core.Logic.{_↔_}
 use Rattle.std.specs.Orderings.{Decides}
 use Rattle.std.specs.declared.option.Option.{Option}
 use Rattle.std.specs.declared.option.Option.the-variants.{Some, None}
@@ -12,7 +13,7 @@ use Rattle.model.specs.declared.event.Action.{Action}
 use Rattle.model.specs.declared.event.Event.{Event}
 use Rattle.order.specs.declared.view.View.{View}
 use Rattle.order.specs.declared.view.Views.{Views}
-use Rattle.order.specs.Order.{eventAt, At, next, Point, numbered, Readable, IsWrite, Brings, Owns}
+use Rattle.order.specs.Order.{eventAt, At, next, Point, numbered, Readable, IsWrite, Brings, Legal, Owns}
 
 -- Writers are the boards 0 to 7, and 8 for no board, which made the initial write.
 
@@ -92,3 +93,57 @@ onBoards (e ∷ h) = ltb (e .board) 8 && onBoards h
 -- the test holds exactly where the relation does
 abbrev pub ReadableDecided : Type 0
 ReadableDecided = (h : List Event) (c b n : ℕ) → onBoards h ≡ true → b < 8 → Decides (readable h c b n) (Readable h c b (numbered n))
+
+-- ── legal ──
+
+-- whether the write numbered n brings the word w
+abbrev pub bringsBy : Action → ℕ → Bool
+bringsBy (Action.Write v) w = eqb v w
+bringsBy Action.Acquire w = false
+bringsBy Action.Release w = false
+
+abbrev pub bringsIn : Option Event → ℕ → Bool
+bringsIn None w = false
+bringsIn (Some e) w = bringsBy (e .action) w
+
+abbrev pub brings : List Event → (start n w : ℕ) → Bool
+brings h start zero w = eqb start w
+brings h start (suc n) w = bringsIn (eventAt h (suc n)) w
+
+-- the highest number up to n that passes
+abbrev pub highest : (ℕ → Bool) → ℕ → Option ℕ
+highest pass zero = cond (pass 0) (Some 0) None
+highest pass (suc n) = cond (pass (suc n)) (Some (suc n)) (highest pass n)
+
+-- the highest-numbered readable write that brings the word
+abbrev pub legal : List Event → (start c b w : ℕ) → Option ℕ
+legal h start c b w = highest (λ n. readable h c b n && brings h start n w) (length h)
+
+pub record LegalBy (h : List Event) (start c b w n : ℕ) : Type 0 where
+  pub readable : Readable h c b (numbered n)
+  pub brings : Brings h start c (numbered n) w
+  pub highest : (m : ℕ) → n < m → Readable h c b (numbered m) → Brings h start c (numbered m) w → ⊥
+
+pub record LegalDecided : Type 0 where
+  pub found : (h : List Event) (start c b w n : ℕ) → onBoards h ≡ true → b < 8 → (legal h start c b w ≡ Some n) ↔ LegalBy h start c b w n
+  pub none : (h : List Event) (start c b w : ℕ) → onBoards h ≡ true → b < 8 → (legal h start c b w ≡ None) ↔ (Legal h start c b w → ⊥)
+
+-- ── the owner ──
+
+abbrev pub ownerBy : Action → ℕ → Option ℕ → Option ℕ
+ownerBy (Action.Write w) b o = o
+ownerBy Action.Acquire b o = Some b
+ownerBy Action.Release b o = None
+
+abbrev pub ownerAfter : (c : ℕ) → Event → Option ℕ → Option ℕ
+ownerAfter c e o = cond (eqb (e .cell) c) (ownerBy (e .action) (e .board) o) o
+
+abbrev pub ownerFrom : (c : ℕ) → List Event → Option ℕ → Option ℕ
+ownerFrom c [] o = o
+ownerFrom c (e ∷ h) o = ownerFrom c h (ownerAfter c e o)
+
+abbrev pub ownerOf : List Event → (c : ℕ) → Option ℕ
+ownerOf h c = ownerFrom c h None
+
+abbrev pub OwnerDecided : Type 0
+OwnerDecided = (h : List Event) (c b : ℕ) → (ownerOf h c ≡ Some b) ↔ Owns h c b (next h)
