@@ -98,9 +98,6 @@ numbered-length h c (suc n) w = let i = at-within h (suc n) (w .0) (w .2) in ome
 -- ── legal ──
 
 module _ (h : List Event) (start c b w : ℕ) (f : onBoards h ≡ true) (small : b < 8) where
-  pass : ℕ → Bool
-  pass n = readable h c b n && brings h start n w
-
   pass-decided : (n : ℕ) → Decides (readable h c b n && brings h start n w) (Readable h c b (numbered n) × Brings h start c (numbered n) w)
   pass-decided n = (there, back)
     where

@@ -1,12 +1,4 @@
-// The memory model: the order of events on a cell, and which writes a board may read.
-ghost use mathlib.Core.Path.{_≡_};
-ghost use Prim.Native.Nat.{ℕ};
-ghost use Rattle.order.specs.Order.{Owns};
-
+// The memory model: how the events on a cell are ordered, which writes a board may read, and who owns a cell. The definitions
+// stand in specs/, with the laws that hold of every history.
+pub mod owner;
 pub mod view;
-
-pub fn zero() -> u8
-    ensures { λ r. ⌜ r ≡ 0 ⌝ }
-{
-    0
-}
