@@ -317,6 +317,10 @@ boards-old (e ∷ h) g f =
     let i = boards-old h g (r .1) in
     (and-from (ltb (e .board) 8) (onBoards h) (r .0) (i .0), i .1)
 
+pub boards-more : (h : List Event) (g : Event) → onBoards h ≡ true → g .board < 8 → onBoards (more h g) ≡ true
+boards-more [] g f l = and-from (ltb (g .board) 8) true (lt-ltb (g .board) 8 l) refl
+boards-more (e ∷ h) g f l = let r = and-parts (ltb (e .board) 8) (onBoards h) f in and-from (ltb (e .board) 8) (onBoards (more h g)) (r .0) (boards-more h g (r .1) l)
+
 pub right-views : (c : ℕ) (h : List Event) → onBoards h ≡ true → Right h c (views c h)
 right-views c = by-events (λ h. onBoards h ≡ true → Right h c (views c h)) (λ f. right-start c) one
   where
