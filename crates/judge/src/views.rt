@@ -1,8 +1,14 @@
 ghost use mathlib.Core.Path.{_≡_};
+ghost use mathlib.Core.Bool.{true};
 ghost use Prim.Native.Nat.{_<_, _≤_};
 ghost use lib.ListN.{length};
-ghost use Rattle.order.specs.Test.{later, initially, joining, viewOf, viewing, writing};
+ghost use Rattle.std.specs.Options.{mapped};
+ghost use Rattle.judge.specs.Settling.{Settled};
+ghost use Rattle.order.specs.Test.{later, initially, joining, onBoards, passing, viewOf, views, writing};
 use model::event::Action;
+use model::event::Event;
+use model::event::EventLocated;
+use model::search::newest;
 use order::view::NO_BOARD;
 use order::view::View;
 use order::view::Views;
@@ -62,17 +68,62 @@ fn view_of(known: &Views, board: usize) -> View
     known.boards[board]
 }
 
-// Takes in one event of the cell.
-fn take_in(known: &mut Views, number: u32, board: usize, action: Action)
-    requires board { ⌜ board < 8 ⌝ }
+// Takes in the event of that number; one on another cell tells nothing.
+fn take_in(known: &mut Views, number: u32, event: Event, cell: u32)
+    requires board { ⌜ event .board < 8 ⌝ }
     requires number { ⌜ number ≤ 2048 ⌝ }
     requires boards { ⌜ length (now known .boards) ≡ 8 ⌝ }
-    ensures { λ _. ⌜ now (known .exit) ≡ viewing number board action (now (known .entry)) ⌝ }
+    ensures after { λ _. ⌜ now (known .exit) ≡ passing cell number event (now (known .entry)) ⌝ }
+    ensures boards { λ _. ⌜ length (now (known .exit) .boards) ≡ 8 ⌝ }
 {
+    if event.cell != cell {
+        return;
+    }
+    let board = event.board as usize;
     let view = view_of(known, board);
-    match action {
+    match event.action {
         Action::Write(_) => known.boards[board] = written(view, board, number),
         Action::Acquire => known.boards[board] = joined(view, known.released),
         Action::Release => known.released = view,
+    }
+}
+
+// The views of the cell after a history.
+fn survey(history: &[Event], cell: u32) -> Views
+    requires boards { ⌜ onBoards (now history) ≡ true ⌝ }
+    requires few { ⌜ length (now history) ≤ 2048 ⌝ }
+    ensures after { λ r. ⌜ r ≡ views cell (now (history .entry)) ⌝ }
+    ensures boards { λ r. ⌜ length (r .boards) ≡ 8 ⌝ }
+{
+    let mut known = initial();
+    for (i, event) in history.iter().enumerate() {
+        take_in(&mut known, i as u32 + 1, *event, cell);
+    }
+    known
+}
+
+// The history up to the board's latest event on the cell: what comes after that changes nothing for the board, and a board
+// with no event there knows nothing.
+fn up_to_latest(history: &[Event], board: u32, cell: u32) -> Option<&[Event]>
+    requires boards { ⌜ onBoards (now history) ≡ true ⌝ }
+    requires few { ⌜ length (now history) ≤ 2048 ⌝ }
+    ensures { λ r. ⌜ Settled (now (history .entry)) board cell (mapped now r) ⌝ }
+{
+    match newest(history, board, cell) {
+        Some(latest) => Some(&history[0..latest + 1]),
+        None => None,
+    }
+}
+
+// For each writer, below which number its writes of the cell are overwritten for the board.
+pub(crate) fn overwritten(history: &[Event], board: u32, cell: u32) -> [u32; WRITERS]
+    requires boards { ⌜ onBoards (now history) ≡ true ⌝ }
+    requires few { ⌜ length (now history) ≤ 2048 ⌝ }
+    requires board { ⌜ board < 8 ⌝ }
+    ensures { λ r. ⌜ r ≡ viewOf (views cell (now (history .entry))) board .over ⌝ }
+{
+    match up_to_latest(history, board, cell) {
+        Some(part) => view_of(&survey(part, cell), board as usize).over,
+        None => [0; WRITERS],
     }
 }

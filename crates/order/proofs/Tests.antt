@@ -20,7 +20,7 @@ use Rattle.model.specs.declared.event.Event.{Event}
 use Rattle.order.specs.declared.view.View.{View}
 use Rattle.order.specs.declared.view.Views.{Views}
 use Rattle.order.specs.Order.{eventAt, At, next, more, By, WriteOf, AcquireOf, ReleaseOf, Point, initial-write, initial-release, event, numbered, Directly, initial, same-board, acquire, Before, link, chain, no-release, IsWrite, Known, Overwritten, Readable}
-use Rattle.order.specs.Test.{later, blank, initially, viewOf, writing, joining, putting, viewing, viewsFrom, views, writerBy, writerIn, writerOf, current, readable, onBoards, ReadableDecided}
+use Rattle.order.specs.Test.{later, blank, initially, viewOf, writing, joining, putting, viewing, passing, viewsFrom, views, writerBy, writerIn, writerOf, current, readable, onBoards, ReadableDecided}
 use Rattle.order.specs.Laws.{Within}
 use Rattle.order.proofs.History.{none-not-some, nothing-not-some, some-same, write-not-release, write-not-acquire, acquire-not-release, at-within, at-old, at-new, at-inv, at-same, next-more, by-events}
 use Rattle.order.proofs.Growth.{Published, new-not-within, known-within, known-new, known-on, known-own}
@@ -237,7 +237,7 @@ module _ (h : List Event) (g : Event) (c : ℕ) where
     right-else : (g .cell ≡ c → ⊥) → Right (more h g) c t
     right-else far = record { boards = λ b low. shows-same (same-else h g c b (λ y. far (y .0))) (r .boards b low); released = shows-same (same-published h g c (λ y. far (y .0))) (r .released); eight = r .eight }
 
-    right-one : Right (more h g) c (cond (eqb (g .cell) c) (viewing (next h) (g .board) (g .action) t) t)
+    right-one : Right (more h g) c (passing c (next h) g t)
     right-one = go (cases-bool (eqb (g .cell) c))
       where
         after : Views
@@ -250,12 +250,11 @@ module _ (h : List Event) (g : Event) (c : ℕ) where
 -- ── from the start on ──
 
 -- the walk over one more event
-pub views-more : (c n : ℕ) (h : List Event) (g : Event) (t : Views) → viewsFrom c (suc n) (more h g) t ≡ (let i = viewsFrom c (suc n) h t in cond (eqb (g .cell) c) (viewing (n + next h) (g .board) (g .action) i) i)
-views-more c n [] g t = ap (λ k. cond (eqb (g .cell) c) (viewing k (g .board) (g .action) t) t) (omega arith)
+pub views-more : (c n : ℕ) (h : List Event) (g : Event) (t : Views) → viewsFrom c (suc n) (more h g) t ≡ passing c (n + next h) g (viewsFrom c (suc n) h t)
+views-more c n [] g t = ap (λ k. passing c k g t) (omega arith)
 views-more c n (e ∷ h) g t =
-    let s = cond (eqb (e .cell) c) (viewing (suc n) (e .board) (e .action) t) t in
-    let i = viewsFrom c (suc (suc n)) h s in
-    views-more c (suc n) h g s ∙ ap (λ k. cond (eqb (g .cell) c) (viewing k (g .board) (g .action) i) i) (omega arith)
+    let s = passing c (suc n) e t in
+    views-more c (suc n) h g s ∙ ap (λ k. passing c k g (viewsFrom c (suc (suc n)) h s)) (omega arith)
 
 -- nothing is before the initial write
 first-directly : {h : List Event} {c : ℕ} {x y : Point} → y ≡ initial-write → Directly h c x y → ⊥
@@ -328,7 +327,7 @@ right-views c = by-events (λ h. onBoards h ≡ true → Right h c (views c h)) 
     one h g r f =
         let i = boards-old h g f in
         let t = views c h in
-        let e : (cond (eqb (g .cell) c) (viewing (0 + next h) (g .board) (g .action) t) t) ≡ (cond (eqb (g .cell) c) (viewing (next h) (g .board) (g .action) t) t) = ap (λ k. cond (eqb (g .cell) c) (viewing k (g .board) (g .action) t) t) (omega arith) in
+        let e : passing c (0 + next h) g t ≡ passing c (next h) g t = ap (λ k. passing c k g t) (omega arith) in
         subst (Right (more h g) c) (sym (views-more c 0 h g initially ∙ e)) (right-one h g c t (i .1) (r (i .0)))
 
 -- ── readable ──

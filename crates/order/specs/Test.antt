@@ -52,10 +52,14 @@ viewing n p (Action.Write w) t = putting p (writing p n (viewOf t p)) t
 viewing n p Action.Acquire t = putting p (joining (viewOf t p) (t .released)) t
 viewing n p Action.Release t = record { boards = t .boards; released = viewOf t p }
 
+-- the views of the cell c after any event
+abbrev pub passing : (c n : ℕ) → Event → Views → Views
+passing c n e t = cond (eqb (e .cell) c) (viewing n (e .board) (e .action) t) t
+
 -- the views of the cell c after the events h, the first of which is numbered n
 abbrev pub viewsFrom : (c n : ℕ) → List Event → Views → Views
 viewsFrom c n [] t = t
-viewsFrom c n (e ∷ h) t = viewsFrom c (suc n) h (cond (eqb (e .cell) c) (viewing n (e .board) (e .action) t) t)
+viewsFrom c n (e ∷ h) t = viewsFrom c (suc n) h (passing c n e t)
 
 abbrev pub views : (c : ℕ) → List Event → Views
 views c h = viewsFrom c 1 h initially
