@@ -4,7 +4,6 @@ use mathlib.Core.List.{List, [], _∷_, _++_}
 use mathlib.Core.Bool.{Bool, true, false, cond, _&&_}
 use mathlib.Core.Logic.{_⊎_, inl, inr}
 use Prim.Native.Nat.{ℕ, zero, suc, _+_, _<_, _≤_}
-use native.Mathlib.Nat.{le-of-suc-le-suc, not-suc-le-zero}
 use native.Mathlib.Omega.{arith}
 use lib.ListN.{length, getD, set, take, drop, replicate}
 use lib.Dec.{eqb, ltb}
@@ -111,11 +110,6 @@ unsettled c b h none = quiet c 1 b h initially none ∙ alike 8 b
     alike (suc n) (suc p) = alike n p
 
 -- ── boards ──
-
-pub board-at : (h : List Event) (i : ℕ) (d : Event) → onBoards h ≡ true → i < length h → getD h i d .board < 8
-board-at [] i d f l = absurd (not-suc-le-zero l)
-board-at (e ∷ h) zero d f l = ltb-true (e .board) 8 (and-parts (ltb (e .board) 8) (onBoards h) f .0)
-board-at (e ∷ h) (suc i) d f l = board-at h i d (and-parts (ltb (e .board) 8) (onBoards h) f .1) (le-of-suc-le-suc l)
 
 pub boards-take : (n : ℕ) (h : List Event) → onBoards h ≡ true → onBoards (take n h) ≡ true
 boards-take zero h f = refl

@@ -4,7 +4,7 @@ ghost use Prim.Native.Nat.{_<_, _≤_};
 ghost use lib.ListN.{length};
 ghost use Rattle.std.specs.Options.{mapped};
 ghost use Rattle.judge.specs.Settling.{Settled};
-ghost use Rattle.order.specs.Test.{later, initially, joining, onBoards, passing, viewOf, views, writing};
+ghost use Rattle.order.specs.Test.{bounds, later, initially, joining, onBoards, passing, viewOf, views, writing};
 use model::event::Action;
 use model::event::Event;
 use model::event::EventLocated;
@@ -120,7 +120,7 @@ pub(crate) fn overwritten(history: &[Event], board: u32, cell: u32) -> [u32; WRI
     requires boards { ⌜ onBoards (now history) ≡ true ⌝ }
     requires few { ⌜ length (now history) ≤ 2048 ⌝ }
     requires board { ⌜ board < 8 ⌝ }
-    ensures { λ r. ⌜ r ≡ viewOf (views cell (now (history .entry))) board .over ⌝ }
+    ensures { λ r. ⌜ r ≡ bounds (now (history .entry)) cell board ⌝ }
 {
     match up_to_latest(history, board, cell) {
         Some(part) => view_of(&survey(part, cell), board as usize).over,

@@ -5,7 +5,8 @@ use mathlib.Core.Logic.{_⊎_, inl, inr}
 use Prim.Native.Nat.{ℕ, zero, suc, _+_, _<_, _≤_}
 use native.Mathlib.Numerals.{add-one}
 use native.Mathlib.Omega.{arith}
-use lib.ListN.{length}
+use native.Mathlib.Nat.{le-of-suc-le-suc, not-suc-le-zero}
+use lib.ListN.{length, getD}
 use Rattle.std.proofs.shelf.Lists.{append-nil, append-assoc, length-push}
 use Rattle.std.specs.declared.option.Option.{Option}
 use Rattle.std.specs.declared.option.Option.the-variants.{Some, None}
@@ -18,6 +19,9 @@ use Rattle.order.specs.Order.{LatestRelease, some-release, no-release, Directl
 
 pub none-not-some : {e : Event} → _≡_ {A = Option Event} None (Some e) → ⊥
 none-not-some p = let z : _≡_ {A = ℕ} 0 1 = cc in omega arith
+
+pub some-event : {e f : Event} → _≡_ {A = Option Event} (Some e) (Some f) → e ≡ f
+some-event p = cc
 
 pub nothing-not-some : {n : ℕ} → _≡_ {A = Option ℕ} None (Some n) → ⊥
 nothing-not-some p = let z : _≡_ {A = ℕ} 0 1 = cc in omega arith
@@ -47,6 +51,18 @@ at-within [] n e a = absurd (none-not-some a)
 at-within (f ∷ h) zero e a = absurd (none-not-some a)
 at-within (f ∷ h) (suc zero) e a = omega arith
 at-within (f ∷ h) (suc (suc n)) e a = let r = at-within h (suc n) e a in omega arith
+
+-- the event of a number is the element just below it in the list
+pub at-getD : (h : List Event) (i : ℕ) (d : Event) → i < length h → At h (suc i) (getD h i d)
+at-getD [] i d l = absurd (not-suc-le-zero l)
+at-getD (e ∷ h) zero d l = refl
+at-getD (e ∷ h) (suc i) d l = at-getD h i d (le-of-suc-le-suc l)
+
+pub at-none : (h : List Event) (n : ℕ) → (n ≡ 0) ⊎ (length h < n) → eventAt h n ≡ None
+at-none [] n w = refl
+at-none (e ∷ h) zero w = refl
+at-none (e ∷ h) (suc zero) w = absurd (omega arith)
+at-none (e ∷ h) (suc (suc n)) w = at-none h (suc n) (inr (omega arith))
 
 pub at-same : (h : List Event) (n : ℕ) (e f : Event) → At h n e → At h n f → e ≡ f
 at-same h n e f a b = cc

@@ -14,7 +14,7 @@ use Rattle.std.proofs.shelf.Tests.{true≢false, cases-bool, cases-order, eqb-t
 use Rattle.model.specs.declared.event.Action.{Action}
 use Rattle.model.specs.declared.event.Event.{Event}
 use Rattle.order.specs.Order.{eventAt, At, next, Point, initial-write, initial-release, event, numbered, WriteOf, IsWrite, Brings, Readable, Legal}
-use Rattle.order.specs.Test.{readable, bringsBy, bringsIn, brings, highest, legal, onBoards, LegalBy, LegalDecided}
+use Rattle.order.specs.Test.{readable, bringsBy, bringsIn, brings, highest, legalUnder, legal, onBoards, LegalBy, LegalDecided}
 use Rattle.order.proofs.History.{nothing-not-some, some-same, at-within, at-same, write-same}
 use Rattle.order.proofs.Tests.{readable-decided}
 
@@ -114,6 +114,7 @@ module _ (h : List Event) (start c b w : ℕ) (f : onBoards h ≡ true) (small :
       back (i, k) = and-from (readable h c b n) (brings h start n w) (r .1 i) (brings-decided h start c n w (i .write) .1 k)
 
   pub legal-found : (n : ℕ) → (legal h start c b w ≡ Some n) ↔ LegalBy h start c b w n
+  unfolding legalUnder
   legal-found n = (there, back)
     where
       there : legal h start c b w ≡ Some n → LegalBy h start c b w n
@@ -126,6 +127,7 @@ module _ (h : List Event) (start c b w : ℕ) (f : onBoards h ≡ true) (small :
       back r = highest-is (λ k. readable h c b k && brings h start k w) (length h) n (numbered-length h c n (r .readable .write), pass-decided n .1 (r .readable, r .brings), λ m l u t. let i = pass-decided m .0 t in r .highest m l (i .0) (i .1))
 
   pub legal-none : (legal h start c b w ≡ None) ↔ (Legal h start c b w → ⊥)
+  unfolding legalUnder
   legal-none = (there, back)
     where
       there : legal h start c b w ≡ None → Legal h start c b w → ⊥

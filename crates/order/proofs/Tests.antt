@@ -20,9 +20,9 @@ use Rattle.model.specs.declared.event.Event.{Event}
 use Rattle.order.specs.declared.view.View.{View}
 use Rattle.order.specs.declared.view.Views.{Views}
 use Rattle.order.specs.Order.{eventAt, At, next, more, By, WriteOf, AcquireOf, ReleaseOf, Point, initial-write, initial-release, event, numbered, Directly, initial, same-board, acquire, Before, link, chain, no-release, IsWrite, Known, Overwritten, Readable}
-use Rattle.order.specs.Test.{later, blank, initially, viewOf, writing, joining, putting, viewing, passing, viewsFrom, views, writerBy, writerIn, writerOf, current, readable, onBoards, ReadableDecided}
+use Rattle.order.specs.Test.{later, blank, initially, viewOf, writing, joining, putting, viewing, passing, viewsFrom, views, writerBy, writerIn, writerOf, bounds, current, readable, onBoards, ReadableDecided}
 use Rattle.order.specs.Laws.{Within}
-use Rattle.order.proofs.History.{none-not-some, nothing-not-some, some-same, write-not-release, write-not-acquire, acquire-not-release, at-within, at-old, at-new, at-inv, at-same, next-more, by-events}
+use Rattle.order.proofs.History.{none-not-some, some-event, nothing-not-some, some-same, write-not-release, write-not-acquire, acquire-not-release, at-within, at-old, at-new, at-inv, at-same, next-more, by-events}
 use Rattle.order.proofs.Growth.{Published, new-not-within, known-within, known-new, known-on, known-own}
 use Rattle.order.proofs.Sight.{Over, over-known, over-either, Same, over-same, same-else, same-release, same-acquire, same-published, same-releasing, known-write, over-write, over-new}
 
@@ -320,6 +320,24 @@ pub boards-more : (h : List Event) (g : Event) → onBoards h ≡ true → g .bo
 boards-more [] g f l = and-from (ltb (g .board) 8) true (lt-ltb (g .board) 8 l) refl
 boards-more (e ∷ h) g f l = let r = and-parts (ltb (e .board) 8) (onBoards h) f in and-from (ltb (e .board) 8) (onBoards (more h g)) (r .0) (boards-more h g (r .1) l)
 
+pub board-at : (h : List Event) (n : ℕ) (e : Event) → onBoards h ≡ true → At h n e → e .board < 8
+board-at [] n e f a = absurd (none-not-some a)
+board-at (g ∷ h) zero e f a = absurd (none-not-some a)
+board-at (g ∷ h) (suc zero) e f a = subst (λ (z : Event). z .board < 8) (some-event a) (ltb-true (g .board) 8 (and-parts (ltb (g .board) 8) (onBoards h) f .0))
+board-at (g ∷ h) (suc (suc n)) e f a = board-at h (suc n) e (and-parts (ltb (g .board) 8) (onBoards h) f .1) a
+
+pub writer-at : (h : List Event) (c n : ℕ) (e : Event) → At h n e → writerOf h c n ≡ writerIn c (Some e)
+writer-at h c zero e a = let w = at-within h 0 e a in absurd (omega arith)
+writer-at h c (suc n) e a = ap (writerIn c) a
+
+-- every writer is one of nine
+pub writer-low : (h : List Event) (c n p : ℕ) → onBoards h ≡ true → writerOf h c n ≡ Some p → p < 9
+writer-low h c zero p f q = let z = some-same q in omega arith
+writer-low h c (suc n) p f q =
+    let m = writer-made h c n p q in
+    let l = board-at h (suc n) (m .event) f (m .stands) in
+    omega (arith, m .board)
+
 pub right-views : (c : ℕ) (h : List Event) → onBoards h ≡ true → Right h c (views c h)
 right-views c = by-events (λ h. onBoards h ≡ true → Right h c (views c h)) (λ f. right-start c) one
   where
@@ -341,7 +359,7 @@ readable-decided h c b n f small = (there (writerOf h c n) refl, back)
     bound : ℕ → ℕ
     bound p = getD (viewOf (views c h) b .over) p 0
 
-    there : (o : Option ℕ) → writerOf h c n ≡ o → current h c b n o ≡ true → Readable h c b (numbered n)
+    there : (o : Option ℕ) → writerOf h c n ≡ o → current (bounds h c b) n o ≡ true → Readable h c b (numbered n)
     there None q t = absurd (true≢false (sym t))
     there (Some p) q t = record {
       write = writer-write h c n p q;
@@ -352,7 +370,7 @@ readable-decided h c b n f small = (there (writerOf h c n) refl, back)
     back i = go (write-writer h c n (i .write))
       where
         go : (p : ℕ) × (writerOf h c n ≡ Some p) → readable h c b n ≡ true
-        go (p, q) = ap (current h c b n) q ∙ le-leb (bound p) n (on (cases-lt n (bound p)))
+        go (p, q) = ap (current (bounds h c b) n) q ∙ le-leb (bound p) n (on (cases-lt n (bound p)))
           where
             on : (n < bound p) ⊎ (bound p ≤ n) → bound p ≤ n
             on (inl l) = absurd (i .current (over-known .0 (r .over n p q .0 (lt-ltb n (bound p) l))))

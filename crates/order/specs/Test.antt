@@ -82,12 +82,17 @@ writerOf h c (suc n) = writerIn c (eventAt h (suc n))
 
 -- ── readable ──
 
-abbrev pub current : List Event → (c b n : ℕ) → Option ℕ → Bool
-current h c b n None = false
-current h c b n (Some p) = leb (getD (viewOf (views c h) b .over) p 0) n
+-- for each writer, the number below which its writes of the cell are overwritten for the board
+abbrev pub bounds : List Event → (c b : ℕ) → List ℕ
+bounds h c b = viewOf (views c h) b .over
+
+-- whether a write of that number and writer is not overwritten
+abbrev pub current : (over : List ℕ) (n : ℕ) → Option ℕ → Bool
+current over n None = false
+current over n (Some p) = leb (getD over p 0) n
 
 abbrev pub readable : List Event → (c b n : ℕ) → Bool
-readable h c b n = current h c b n (writerOf h c n)
+readable h c b n = current (bounds h c b) n (writerOf h c n)
 
 -- every event is by one of eight boards
 abbrev pub onBoards : List Event → Bool
@@ -120,8 +125,11 @@ highest pass zero = cond (pass 0) (Some 0) None
 highest pass (suc n) = cond (pass (suc n)) (Some (suc n)) (highest pass n)
 
 -- the highest-numbered readable write that brings the word
+unfoldable pub legalUnder : (over : List ℕ) → List Event → (start c w : ℕ) → Option ℕ
+legalUnder over h start c w = highest (λ n. current over n (writerOf h c n) && brings h start n w) (length h)
+
 abbrev pub legal : List Event → (start c b w : ℕ) → Option ℕ
-legal h start c b w = highest (λ n. readable h c b n && brings h start n w) (length h)
+legal h start c b w = legalUnder (bounds h c b) h start c w
 
 pub record LegalBy (h : List Event) (start c b w n : ℕ) : Type 0 where
   pub readable : Readable h c b (numbered n)

@@ -1,15 +1,19 @@
 ghost use mathlib.Core.Path.{_≡_};
 ghost use mathlib.Core.List.{[]};
 ghost use denote.Ref.{name};
-ghost use Prim.Native.Nat.{_<_};
-ghost use lib.ListN.{length, set};
+ghost use mathlib.Core.Bool.{true};
+ghost use Prim.Native.Nat.{_<_, _≤_};
+ghost use lib.ListN.{length, getD, set};
 ghost use Rattle.std.specs.Vec.{made};
 ghost use Rattle.order.specs.Laws.{LawsOfOrder};
 ghost use Rattle.order.specs.Order.{more, next};
-ghost use Rattle.order.specs.Test.{OwnerDecided};
-ghost use Rattle.judge.specs.Judging.{historyOf, roomOf, standing, allowed, numbering, noteAnswer, extended, placed};
+ghost use Rattle.order.specs.Test.{onBoards, LegalDecided, OwnerDecided, ReadableDecided};
+ghost use Rattle.judge.specs.Judging.{historyOf, roomOf, standing, allowed, numbering, noteAnswer, extended, placed, readableAnswer, legalAnswer};
 use super::Judge;
 use super::MOST_EVENTS;
+use crate::views::overwritten;
+use crate::writes::highest_legal;
+use crate::writes::writer_of;
 use home::source::Source;
 use model::event::Action;
 use model::event::Event;
@@ -19,7 +23,7 @@ use order::owner::owner;
 // Whether there is such a board and such a cell, on a bench of so many boards and cells.
 fn standing_on(boards: u32, cells: u32, board: u32, cell: u32) -> Result<(), Refusal>
     ensures answer { λ r. ⌜ r ≡ standing boards cells board cell ⌝ }
-    ensures small { λ r. ⌜ made r (λ _. board < 8) ⌝ }
+    ensures small { λ r. ⌜ made r (λ _. (board < 8) × (cell < cells)) ⌝ }
 {
     if boards == 0 || boards > 8 || cells == 0 || cells > 64 {
         return Err(Refusal::SizeOutOfRange);
@@ -47,6 +51,16 @@ fn allow(owner: Option<u32>, board: u32, action: Action) -> Result<(), Refusal>
     }
 }
 
+// The word that the cell started with.
+fn starting_word<S: Source>(source: &S, cell: u32) -> u32
+    ensures { λ r. ⌜ r ≡ getD (S·Source .words (now (source .entry))) cell 0 ⌝ }
+{
+    match source.read(cell) {
+        Ok(word) => word,
+        Err(_) => 0,
+    }
+}
+
 impl<'a> Judge<'a> {
     // A judge that has noted nothing yet.
     pub fn new(list: &'a mut [Event]) -> Judge<'a>
@@ -60,7 +74,11 @@ impl<'a> Judge<'a> {
     // The events noted so far, with what holds of every history.
     fn history(&self) -> &[Event]
         ensures value { λ r. ⌜ now r ≡ historyOf (now (self .entry)) ⌝ }
+        ensures boards { λ r. ⌜ onBoards (now r) ≡ true ⌝ }
+        ensures few { λ r. ⌜ length (now r) ≤ 2048 ⌝ }
         ensures owner { λ _. ⌜ OwnerDecided ⌝ }
+        ensures readable { λ _. ⌜ ReadableDecided ⌝ }
+        ensures legal { λ _. ⌜ LegalDecided ⌝ }
         ensures laws { λ _. ⌜ LawsOfOrder ⌝ }
     {
         &self.list[0..self.noted]
@@ -103,5 +121,30 @@ impl<'a> Judge<'a> {
             return Err(Refusal::EventsFull);
         }
         Ok(self.push(event))
+    }
+
+    // Whether the board may read the write of that number on the cell.
+    pub fn readable<S: Source>(&self, boards: u32, source: &S, board: u32, cell: u32, number: u32) -> Result<bool, Refusal>
+        ensures answer { λ r. ⌜ r ≡ readableAnswer (historyOf (now (self .entry))) boards (S·Source .words (now (source .entry))) board cell number ⌝ }
+        ensures decided { λ _. ⌜ ReadableDecided ⌝ }
+    {
+        let history = self.history();
+        standing_on(boards, source.size(), board, cell)?;
+        let Some(writer) = writer_of(history, cell, number) else {
+            return Err(Refusal::NotAWrite);
+        };
+        let over = overwritten(history, board, cell);
+        Ok(over[writer] <= number)
+    }
+
+    // The highest-numbered write of the word that the board may read on the cell, if there is one.
+    pub fn legal<S: Source>(&self, boards: u32, source: &S, board: u32, cell: u32, word: u32) -> Result<Option<u32>, Refusal>
+        ensures answer { λ r. ⌜ r ≡ legalAnswer (historyOf (now (self .entry))) boards (S·Source .words (now (source .entry))) board cell word ⌝ }
+        ensures decided { λ _. ⌜ LegalDecided ⌝ }
+    {
+        let history = self.history();
+        standing_on(boards, source.size(), board, cell)?;
+        let over = overwritten(history, board, cell);
+        Ok(highest_legal(history, over, starting_word(source, cell), cell, word))
     }
 }

@@ -8,11 +8,12 @@ use Rattle.std.proofs.shelf.Lists.{at-drop-more, at-drop-all}
 use Rattle.model.specs.declared.event.Event.{Event}
 use Rattle.order.specs.declared.view.Views.{Views}
 use Rattle.order.specs.Test.{initially, passing, viewsFrom}
-use Rattle.judge.proofs.Latest.{board-at}
+use Rattle.order.proofs.History.{at-getD}
+use Rattle.order.proofs.Tests.{board-at}
 use Rattle.judge.proofs.views.survey.Needs as need
 
 pub take-in-requires : need.take-in-requires
-take-in-requires c κs = record { board = board-at (c .args .history .now) (c .loop-i .i) _ (c .pre .boards) (c .loop-i-test .taken); number = omega arith; boards = c .loop-i .inv .1 }
+take-in-requires c κs = record { board = board-at (c .args .history .now) (suc (c .loop-i .i)) _ (c .pre .boards) (at-getD (c .args .history .now) (c .loop-i .i) _ (c .loop-i-test .taken)); number = omega arith; boards = c .loop-i .inv .1 }
 
 pub loop-i-holds : need.loop-i-holds
 loop-i-holds c = (ap (viewsFrom (c .args .cell) 1 (c .args .history .now)) (c .initial-known .ensures), ap (λ (t : Views). length (t .boards)) (c .initial-known .ensures))
