@@ -1,2 +1,4 @@
+pub mod Discipline
+pub mod Examples
 pub mod Finding
 pub mod Latest

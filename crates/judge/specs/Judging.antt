@@ -16,7 +16,7 @@ use Rattle.model.specs.declared.event.Action.{Action}
 use Rattle.model.specs.declared.event.Event.{Event}
 use Rattle.model.specs.declared.refusal.Refusal.{Refusal}
 use Rattle.model.specs.declared.refusal.Refusal.the-variants.{NoSuchBoard, NoSuchCell, SizeOutOfRange, NotAWrite, OwnedByAnother, OwnedAlready, NotOwner, EventsFull}
-use Rattle.order.specs.Order.{more}
+use Rattle.order.specs.Order.{next, more}
 use Rattle.order.specs.Test.{ownerOf, writerOf, readable, legal}
 use Rattle.judge.specs.declared.judge.Judge.{Judge}
 
@@ -53,12 +53,15 @@ allowed o b (Action.Write w) = Ok tt
 allowed o b Action.Acquire = acquiring o b
 allowed o b Action.Release = releasing o b
 
--- an accepted event is answered by its number
-abbrev pub numbering : (h : List Event) (room : ℕ) → Result ℕ Refusal
-numbering h room = cond (ltb (length h) room) (Ok (suc (length h))) (Err EventsFull)
+-- whether the event may be noted
+abbrev pub admitted : (h : List Event) (room boards cells : ℕ) → Event → Result (Unit {0}) Refusal
+admitted h room boards cells e =
+    after (standing boards cells (e .board) (e .cell))
+    (after (allowed (ownerOf h (e .cell)) (e .board) (e .action)) (cond (ltb (length h) room) (Ok tt) (Err EventsFull)))
 
+-- an event that is noted is answered by its number
 abbrev pub noteAnswer : (h : List Event) (room boards : ℕ) (words : List ℕ) → Event → Result ℕ Refusal
-noteAnswer h room boards words e = after (standing boards (length words) (e .board) (e .cell)) (after (allowed (ownerOf h (e .cell)) (e .board) (e .action)) (numbering h room))
+noteAnswer h room boards words e = after (admitted h room boards (length words) e) (Ok (next h))
 
 -- a refused event changes nothing; an accepted one is added to the history, in the first free place
 abbrev pub extended : {T : Type 0} → Result T Refusal → List Event → Event → List Event

@@ -1,2 +1,4 @@
+pub mod Discipline
+pub mod Examples
 pub mod Judging
 pub mod Settling

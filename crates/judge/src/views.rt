@@ -42,7 +42,10 @@ fn initial() -> Views
     let mut known = none;
     known[NO_BOARD] = 1;
     Views {
-        boards: [View { known: none, over: none }; 8],
+        boards: [View {
+            known: none,
+            over: none,
+        }; 8],
         released: View { known, over: none },
     }
 }

@@ -53,13 +53,21 @@ fn passes(event: Event, number: u32, over: [u32; WRITERS], cell: u32, word: u32)
     ensures { λ r. ⌜ r ≡ (current over number (writerIn cell (Some event)) && bringsBy (event .action) word) ⌝ }
 {
     match event.action {
-        Action::Write(brought) => event.cell == cell && over[event.board as usize] <= number && brought == word,
+        Action::Write(brought) => event.cell == cell
+            && over[event.board as usize] <= number
+            && brought == word,
         _ => false,
     }
 }
 
 // The highest-numbered write of the word to the cell that is not overwritten.
-pub(crate) fn highest_legal(history: &[Event], over: [u32; WRITERS], start: u32, cell: u32, word: u32) -> Option<u32>
+pub(crate) fn highest_legal(
+    history: &[Event],
+    over: [u32; WRITERS],
+    start: u32,
+    cell: u32,
+    word: u32,
+) -> Option<u32>
     requires boards { ⌜ onBoards (now history) ≡ true ⌝ }
     requires few { ⌜ length (now history) ≤ 2048 ⌝ }
     ensures { λ r. ⌜ r ≡ legalUnder over (now (history .entry)) start cell word ⌝ }

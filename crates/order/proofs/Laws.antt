@@ -71,21 +71,25 @@ module _ (h : List Event) (c w n : ℕ) (e : Event) (stands : At h n e) (write :
 
       go : (d .board ≡ e .board) ⊎ (d .board ≡ e .board → ⊥) → Reached (event i)
       go (inl r) = inl (i, d, refl, s, r)
-      go (inr r) = inr (i, inl refl, record {
-        release = k;
-        released = l .event;
-        release-stands = l .stands;
-        is-release = l .kind;
-        by-first = ap (λ (j : Event). j .board) same ∙ q;
-        after = (let z = before-forward (after u) in omega arith, after u);
-        acquire = i;
-        acquired = d;
-        acquire-stands = s;
-        is-acquire = by;
-        by-other = r;
-        later = (l .below, taken);
-        up-to = inl refl;
-      })
+      go (inr r) = inr (
+        i,
+        inl refl,
+        record {
+          release = k;
+          released = l .event;
+          release-stands = l .stands;
+          is-release = l .kind;
+          by-first = ap (λ (j : Event). j .board) same ∙ q;
+          after = (let z = before-forward (after u) in omega arith, after u);
+          acquire = i;
+          acquired = d;
+          acquire-stands = s;
+          is-acquire = by;
+          by-other = r;
+          later = (l .below, taken);
+          up-to = inl refl;
+        },
+      )
   step u m f p a q (acquire d s by (no-release none)) = let z : _≡_ {A = ℕ} 0 1 = cc in absurd (omega arith)
 
   reached : {y : Point} → Before h c (event n) y → Reached y

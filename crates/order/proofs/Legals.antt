@@ -16,7 +16,7 @@ use Rattle.model.specs.declared.event.Event.{Event}
 use Rattle.order.specs.Order.{eventAt, At, next, Point, initial-write, initial-release, event, numbered, WriteOf, IsWrite, Brings, Readable, Legal}
 use Rattle.order.specs.Test.{readable, bringsBy, bringsIn, brings, highest, legalUnder, legal, onBoards, LegalBy, LegalDecided}
 use Rattle.order.proofs.History.{nothing-not-some, some-same, at-within, at-same, write-same}
-use Rattle.order.proofs.Tests.{readable-decided}
+use Rattle.order.proofs.Tests.{readable-tells}
 
 -- ── the highest number that passes ──
 
@@ -102,7 +102,7 @@ module _ (h : List Event) (start c b w : ℕ) (f : onBoards h ≡ true) (small :
   pass-decided n = (there, back)
     where
       r : Decides (readable h c b n) (Readable h c b (numbered n))
-      r = readable-decided h c b n f small
+      r = readable-tells h c b n f small
 
       there : (readable h c b n && brings h start n w) ≡ true → Readable h c b (numbered n) × Brings h start c (numbered n) w
       there t =
@@ -144,4 +144,5 @@ module _ (h : List Event) (start c b w : ℕ) (f : onBoards h ≡ true) (small :
           go (Some n) e = let r = legal-found n .0 e in absurd (none (record { write = numbered n; readable = r .readable; brings = r .brings }))
 
 pub legal-decided : LegalDecided
-legal-decided = record { found = λ h start c b w n f small. legal-found h start c b w f small n; none = λ h start c b w f small. legal-none h start c b w f small }
+unfolding LegalDecided
+legal-decided = (λ h start c b w n f small. legal-found h start c b w f small n, λ h start c b w f small. legal-none h start c b w f small)

@@ -84,8 +84,8 @@ pub owner-more : (c : ℕ) (h : List Event) (g : Event) (o : Option ℕ) → own
 owner-more c [] g o = refl
 owner-more c (e ∷ h) g o = owner-more c h g (ownerAfter c e o)
 
-pub owner-decided : OwnerDecided
-owner-decided h c b = by-events (λ h. (ownerOf h c ≡ Some b) ↔ Owns h c b (next h)) start one h
+pub owner-tells : (h : List Event) (c b : ℕ) → (ownerOf h c ≡ Some b) ↔ Owns h c b (next h)
+owner-tells h c b = by-events (λ h. (ownerOf h c ≡ Some b) ↔ Owns h c b (next h)) start one h
   where
     start : (ownerOf [] c ≡ Some b) ↔ Owns [] c b (next [])
     start = (λ p. absurd (nothing-not-some p), λ o. absurd (none-not-some (o .latest .stands)))
@@ -119,6 +119,10 @@ owner-decided h c b = by-events (λ h. (ownerOf h c ≡ Some b) ↔ Owns h c b (
             on : (AcquireOf c g × (g .board ≡ b)) ⊎ ((AcquireOf c g → ⊥) × (ReleaseOf c g → ⊥) × Owns h c b (next h)) → ownerOf (more h g) c ≡ Some b
             on (inl (j, e)) = absurd (acquire-not-release (j .1) (i .1))
             on (inr (j, k, o)) = absurd (k i)
+
+pub owner-decided : OwnerDecided
+unfolding OwnerDecided
+owner-decided = owner-tells
 
 -- ── discipline ──
 

@@ -350,8 +350,8 @@ right-views c = by-events (λ h. onBoards h ≡ true → Right h c (views c h)) 
 
 -- ── readable ──
 
-pub readable-decided : ReadableDecided
-readable-decided h c b n f small = (there (writerOf h c n) refl, back)
+pub readable-tells : (h : List Event) (c b n : ℕ) → onBoards h ≡ true → b < 8 → Decides (readable h c b n) (Readable h c b (numbered n))
+readable-tells h c b n f small = (there (writerOf h c n) refl, back)
   where
     r : Shows h c (Known h c b) (viewOf (views c h) b)
     r = right-views c h f .boards b small
@@ -375,3 +375,7 @@ readable-decided h c b n f small = (there (writerOf h c n) refl, back)
             on : (n < bound p) ⊎ (bound p ≤ n) → bound p ≤ n
             on (inl l) = absurd (i .current (over-known .0 (r .over n p q .0 (lt-ltb n (bound p) l))))
             on (inr l) = l
+
+pub readable-decided : ReadableDecided
+unfolding ReadableDecided
+readable-decided = readable-tells

@@ -100,7 +100,7 @@ onBoards [] = true
 onBoards (e ∷ h) = ltb (e .board) 8 && onBoards h
 
 -- the test holds exactly where the relation does
-abbrev pub ReadableDecided : Type 0
+unfoldable pub ReadableDecided : Type 0
 ReadableDecided = (h : List Event) (c b n : ℕ) → onBoards h ≡ true → b < 8 → Decides (readable h c b n) (Readable h c b (numbered n))
 
 -- ── legal ──
@@ -136,9 +136,11 @@ pub record LegalBy (h : List Event) (start c b w n : ℕ) : Type 0 where
   pub brings : Brings h start c (numbered n) w
   pub highest : (m : ℕ) → n < m → Readable h c b (numbered m) → Brings h start c (numbered m) w → ⊥
 
-pub record LegalDecided : Type 0 where
-  pub found : (h : List Event) (start c b w n : ℕ) → onBoards h ≡ true → b < 8 → (legal h start c b w ≡ Some n) ↔ LegalBy h start c b w n
-  pub none : (h : List Event) (start c b w : ℕ) → onBoards h ≡ true → b < 8 → (legal h start c b w ≡ None) ↔ (Legal h start c b w → ⊥)
+-- the test answers a number exactly where that write is legal and the highest, and none exactly where the word is not legal
+unfoldable pub LegalDecided : Type 0
+LegalDecided =
+    ((h : List Event) (start c b w n : ℕ) → onBoards h ≡ true → b < 8 → (legal h start c b w ≡ Some n) ↔ LegalBy h start c b w n)
+    × ((h : List Event) (start c b w : ℕ) → onBoards h ≡ true → b < 8 → (legal h start c b w ≡ None) ↔ (Legal h start c b w → ⊥))
 
 -- ── the owner ──
 
@@ -157,5 +159,5 @@ ownerFrom c (e ∷ h) o = ownerFrom c h (ownerAfter c e o)
 abbrev pub ownerOf : List Event → (c : ℕ) → Option ℕ
 ownerOf h c = ownerFrom c h None
 
-abbrev pub OwnerDecided : Type 0
+unfoldable pub OwnerDecided : Type 0
 OwnerDecided = (h : List Event) (c b : ℕ) → (ownerOf h c ≡ Some b) ↔ Owns h c b (next h)

@@ -8,7 +8,9 @@ ghost use Rattle.std.specs.Vec.{made};
 ghost use Rattle.order.specs.Laws.{LawsOfOrder};
 ghost use Rattle.order.specs.Order.{more, next};
 ghost use Rattle.order.specs.Test.{onBoards, LegalDecided, OwnerDecided, ReadableDecided};
-ghost use Rattle.judge.specs.Judging.{historyOf, roomOf, standing, allowed, numbering, noteAnswer, extended, placed, readableAnswer, legalAnswer};
+ghost use Rattle.judge.specs.Discipline.{DisciplineDecided};
+ghost use Rattle.judge.specs.Examples.{Examples};
+ghost use Rattle.judge.specs.Judging.{historyOf, roomOf, standing, allowed, admitted, noteAnswer, extended, placed, readableAnswer, legalAnswer};
 use super::Judge;
 use super::MOST_EVENTS;
 use crate::views::overwritten;
@@ -77,9 +79,11 @@ impl<'a> Judge<'a> {
         ensures boards { λ r. ⌜ onBoards (now r) ≡ true ⌝ }
         ensures few { λ r. ⌜ length (now r) ≤ 2048 ⌝ }
         ensures owner { λ _. ⌜ OwnerDecided ⌝ }
+        ensures discipline { λ _. ⌜ DisciplineDecided ⌝ }
+        ensures laws { λ _. ⌜ LawsOfOrder ⌝ }
         ensures readable { λ _. ⌜ ReadableDecided ⌝ }
         ensures legal { λ _. ⌜ LegalDecided ⌝ }
-        ensures laws { λ _. ⌜ LawsOfOrder ⌝ }
+        ensures examples { λ _. ⌜ Examples ⌝ }
     {
         &self.list[0..self.noted]
     }
@@ -105,6 +109,24 @@ impl<'a> Judge<'a> {
         self.noted as u32
     }
 
+    // Whether the event may be noted.
+    fn admit(&self, boards: u32, cells: u32, event: Event) -> Result<(), Refusal>
+        ensures answer { λ r. ⌜ r ≡ admitted (historyOf (now (self .entry))) (roomOf (now (self .entry))) boards cells event ⌝ }
+        ensures board { λ r. ⌜ made r (λ _. event .board < 8) ⌝ }
+        ensures room { λ r. ⌜ made r (λ _. length (historyOf (now (self .entry))) < roomOf (now (self .entry))) ⌝ }
+        ensures owner { λ _. ⌜ OwnerDecided ⌝ }
+        ensures discipline { λ _. ⌜ DisciplineDecided ⌝ }
+        ensures laws { λ _. ⌜ LawsOfOrder ⌝ }
+    {
+        let history = self.history();
+        standing_on(boards, cells, event.board, event.cell)?;
+        allow(owner(history, event.cell), event.board, event.action)?;
+        if history.len() >= self.room() {
+            return Err(Refusal::EventsFull);
+        }
+        Ok(())
+    }
+
     // Notes an event, and answers its number.
     pub fn note<S: Source>(&mut self, boards: u32, source: &S, event: Event) -> Result<u32, Refusal>
         ensures answer { λ r. ⌜ r ≡ noteAnswer (historyOf (now (self .entry))) (roomOf (now (self .entry))) boards (S·Source .words (now (source .entry))) event ⌝ }
@@ -112,19 +134,22 @@ impl<'a> Judge<'a> {
         ensures list { λ r. ⌜ now (now (self .exit) .list) ≡ placed r (now (now (self .entry) .list)) (length (historyOf (now (self .entry)))) event ⌝ }
         ensures lender { λ _. ⌜ name (now (self .exit) .list) ≡ name (now (self .entry) .list) ⌝ }
         ensures owner { λ _. ⌜ OwnerDecided ⌝ }
+        ensures discipline { λ _. ⌜ DisciplineDecided ⌝ }
         ensures laws { λ _. ⌜ LawsOfOrder ⌝ }
     {
-        let history = self.history();
-        standing_on(boards, source.size(), event.board, event.cell)?;
-        allow(owner(history, event.cell), event.board, event.action)?;
-        if history.len() >= self.room() {
-            return Err(Refusal::EventsFull);
-        }
+        self.admit(boards, source.size(), event)?;
         Ok(self.push(event))
     }
 
     // Whether the board may read the write of that number on the cell.
-    pub fn readable<S: Source>(&self, boards: u32, source: &S, board: u32, cell: u32, number: u32) -> Result<bool, Refusal>
+    pub fn readable<S: Source>(
+        &self,
+        boards: u32,
+        source: &S,
+        board: u32,
+        cell: u32,
+        number: u32,
+    ) -> Result<bool, Refusal>
         ensures answer { λ r. ⌜ r ≡ readableAnswer (historyOf (now (self .entry))) boards (S·Source .words (now (source .entry))) board cell number ⌝ }
         ensures decided { λ _. ⌜ ReadableDecided ⌝ }
     {
@@ -138,9 +163,17 @@ impl<'a> Judge<'a> {
     }
 
     // The highest-numbered write of the word that the board may read on the cell, if there is one.
-    pub fn legal<S: Source>(&self, boards: u32, source: &S, board: u32, cell: u32, word: u32) -> Result<Option<u32>, Refusal>
+    pub fn legal<S: Source>(
+        &self,
+        boards: u32,
+        source: &S,
+        board: u32,
+        cell: u32,
+        word: u32,
+    ) -> Result<Option<u32>, Refusal>
         ensures answer { λ r. ⌜ r ≡ legalAnswer (historyOf (now (self .entry))) boards (S·Source .words (now (source .entry))) board cell word ⌝ }
         ensures decided { λ _. ⌜ LegalDecided ⌝ }
+        ensures examples { λ _. ⌜ Examples ⌝ }
     {
         let history = self.history();
         standing_on(boards, source.size(), board, cell)?;

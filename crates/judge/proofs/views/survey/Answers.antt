@@ -22,12 +22,11 @@ pub loop-i-again : need.loop-i-again
 loop-i-again c =
     let h = c .args .history .now in
     let i = c .loop-i .i in
-    let more = at-drop-more (λ (z : List Event). viewsFrom (c .args .cell) (i + 1) z (c .loop-i .known)) h i _ (c .loop-i-test .taken) in
-    (
+    let more = at-drop-more (λ (z : List Event). viewsFrom (c .args .cell) (i + 1) z (c .loop-i .known)) h i _ (c .loop-i-test .taken) in (
       ap (viewsFrom (c .args .cell) (suc (i + 1)) (drop (i + 1) h)) (c .take-in .ensures .after)
-      ∙ sym more
-      ∙ ap (λ (n : ℕ). viewsFrom (c .args .cell) n (drop i h) (c .loop-i .known)) (add-one i)
-      ∙ c .loop-i .inv .0,
+          ∙ sym more
+          ∙ ap (λ (n : ℕ). viewsFrom (c .args .cell) n (drop i h) (c .loop-i .known)) (add-one i)
+          ∙ c .loop-i .inv .0,
       c .take-in .ensures .boards,
     )
 

@@ -9,6 +9,8 @@ use Rattle.order.proofs.Laws.{laws-of-order}
 use Rattle.order.proofs.Legals.{legal-decided}
 use Rattle.order.proofs.Owners.{owner-decided}
 use Rattle.order.proofs.Tests.{readable-decided}
+use Rattle.judge.proofs.Discipline.{discipline-decided}
+use Rattle.judge.proofs.Examples.{examples}
 use Rattle.judge.proofs.judge.Judge.history.Needs as need
 
 pub returns : need.returns
@@ -20,7 +22,9 @@ returns c =
       boards = ap (λ n. onBoards (take n (j .list .now))) same ∙ j .boards;
       few = omega (arith, j .few, j .within, length-take-le (j .noted - 0) (j .list .now));
       owner = owner-decided;
+      discipline = discipline-decided;
+      laws = laws-of-order;
       readable = readable-decided;
       legal = legal-decided;
-      laws = laws-of-order;
+      examples = examples;
     }
