@@ -29,5 +29,6 @@ pub record Worked : Type 0 where
   -- board 0 writes 1, then 2: it may not read 1 any more
   pub twice : Legal (does 0 (Action.Write 1) ∷ does 0 (Action.Write 2) ∷ []) 0 0 0 1 → ⊥
 
+-- shut, so that a search in a function that promises the examples does not open them
 unfoldable pub Examples : Type 0
 Examples = Worked

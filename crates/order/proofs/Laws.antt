@@ -139,6 +139,7 @@ pub gone : (h : List Event) (c b w n : ℕ) (e : Event) (x : Point) → At h n e
 gone h c b w n e x a mine write u r = r .current (record { by = event n; write = (e, w, a, write); later = u; known = known-own h c b n e a mine })
 
 pub laws-of-order : LawsOfOrder
+unfolding LawsOfOrder
 laws-of-order = record {
   transitive = λ h c x y z. before-trans;
   forward = λ h c x y. before-forward;

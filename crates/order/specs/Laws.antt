@@ -35,7 +35,7 @@ pub record Handed (h : List Event) (c p n m : ℕ) : Type 0 where
   pub later : (release < acquire) × Before h c (event release) (event acquire)
   pub up-to : (acquire ≡ m) ⊎ Before h c (event acquire) (event m)
 
-pub record LawsOfOrder : Type 0 where
+pub record Laws : Type 0 where
   pub transitive : (h : List Event) (c : ℕ) (x y z : Point) → Before h c x y → Before h c y z → Before h c x z
   pub forward : (h : List Event) (c : ℕ) (x y : Point) → Before h c x y → place x < place y
   -- later events change nothing among the older points
@@ -52,3 +52,7 @@ pub record LawsOfOrder : Type 0 where
   pub for-good : (h later : List Event) (c b : ℕ) (x : Point) → Overwritten h c b x → Overwritten (h ++ later) c b x
   -- a board with no event on the cell may read every write of it
   pub silent : (h : List Event) (c b : ℕ) (x : Point) → ((n : ℕ) (e : Event) → At h n e → By c b e → ⊥) → IsWrite h c x → Readable h c b x
+
+-- shut, so that a search in a function that promises the laws does not open them
+unfoldable pub LawsOfOrder : Type 0
+LawsOfOrder = Laws
