@@ -4,6 +4,7 @@ use mathlib.Core.List.{List, [], _∷_, _++_}
 use mathlib.Core.Bool.{Bool, true, false, cond, _&&_}
 use mathlib.Core.Logic.{_⊎_, inl, inr}
 use Prim.Native.Nat.{ℕ, zero, suc, _+_, _<_, _≤_}
+use native.Mathlib.Numerals.{add-one}
 use native.Mathlib.Omega.{arith}
 use lib.ListN.{length, getD, set, take, drop, replicate}
 use lib.Dec.{eqb, ltb}
@@ -17,7 +18,7 @@ use Rattle.model.specs.Search.{isOf, oneOn, lastPlace}
 use Rattle.order.specs.declared.view.View.{View}
 use Rattle.order.specs.declared.view.Views.{Views}
 use Rattle.order.specs.Test.{blank, initially, viewOf, viewing, passing, viewsFrom, views, onBoards}
-use Rattle.judge.specs.Settling.{SettledBy}
+use Rattle.judge.specs.Settling.{Settled}
 use Rattle.order.proofs.History.{nothing-not-some, some-same}
 
 -- ── the last place ──
@@ -118,10 +119,14 @@ boards-take (suc n) (e ∷ h) f =
     let r = and-parts (ltb (e .board) 8) (onBoards h) f in
     and-from (ltb (e .board) 8) (onBoards (take n h)) (r .0) (boards-take n h (r .1))
 
--- up to its latest event on the cell, a history tells all that the board knows
-pub settled-part : (c b : ℕ) (h : List Event) (i n : ℕ) → lastPlace (ofBoard b c) h ≡ Some i → onBoards h ≡ true → length h ≤ 2048 → n ≡ suc i → SettledBy h b c (take n h)
-settled-part c b h i n last f few e = record {
-  same = settled-by c b h i last ∙ ap (λ k. viewOf (views c (take k h)) b) (sym e);
-  boards = boards-take n h f;
-  few = let l = last-within (ofBoard b c) h i last in omega (arith, length-take-le n h (omega arith));
-}
+-- the board's latest event on the cell settles what the board knows, and if there is none it knows nothing
+pub settled : (c b : ℕ) (h : List Event) (o : Option ℕ) → o ≡ lastPlace (ofBoard b c) h → onBoards h ≡ true → length h ≤ 2048 → Settled h b c o
+settled c b h None e f few = unsettled c b h (sym e)
+settled c b h (Some i) e f few =
+    let l = last-within (ofBoard b c) h i (sym e) in
+    record {
+      within = l;
+      same = settled-by c b h i (sym e) ∙ ap (λ k. viewOf (views c (take k h)) b) (sym (add-one i));
+      boards = boards-take (i + 1) h f;
+      few = omega (arith, length-take-le (i + 1) h (omega arith));
+    }

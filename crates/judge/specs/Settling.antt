@@ -2,19 +2,21 @@
 use mathlib.Core.Path.{_≡_}
 use mathlib.Core.List.{List}
 use mathlib.Core.Bool.{true}
-use Prim.Native.Nat.{ℕ, _≤_}
-use lib.ListN.{length}
+use Prim.Native.Nat.{ℕ, _+_, _<_, _≤_}
+use lib.ListN.{length, take}
 use Rattle.std.specs.declared.option.Option.{Option}
 use Rattle.std.specs.declared.option.Option.the-variants.{Some, None}
 use Rattle.model.specs.declared.event.Event.{Event}
 use Rattle.order.specs.Test.{blank, viewOf, views, onBoards}
 
-pub record SettledBy (h : List Event) (b c : ℕ) (part : List Event) : Type 0 where
-  pub same : viewOf (views c h) b ≡ viewOf (views c part) b
-  pub boards : onBoards part ≡ true
-  pub few : length part ≤ 2048
+-- up to the event at that place
+pub record SettledAt (h : List Event) (b c i : ℕ) : Type 0 where
+  pub within : i < length h
+  pub same : viewOf (views c h) b ≡ viewOf (views c (take (i + 1) h)) b
+  pub boards : onBoards (take (i + 1) h) ≡ true
+  pub few : length (take (i + 1) h) ≤ 2048
 
 -- none: nothing is known
-abbrev pub Settled : List Event → (b c : ℕ) → Option (List Event) → Type 0
+abbrev pub Settled : List Event → (b c : ℕ) → Option ℕ → Type 0
 Settled h b c None = viewOf (views c h) b ≡ blank
-Settled h b c (Some part) = SettledBy h b c part
+Settled h b c (Some i) = SettledAt h b c i

@@ -2,7 +2,6 @@ ghost use mathlib.Core.Path.{_≡_};
 ghost use mathlib.Core.Bool.{true};
 ghost use Prim.Native.Nat.{_<_, _≤_};
 ghost use lib.ListN.{length};
-ghost use Rattle.std.specs.Options.{mapped};
 ghost use Rattle.judge.specs.Settling.{Settled};
 ghost use Rattle.order.specs.Test.{bounds, later, initially, joining, onBoards, passing, viewOf, views, writing};
 use model::event::Action;
@@ -105,17 +104,14 @@ fn survey(history: &[Event], cell: u32) -> Views
     known
 }
 
-// The history up to the board's latest event on the cell: what comes after that changes nothing for the board, and a board
-// with no event there knows nothing.
-fn up_to_latest(history: &[Event], board: u32, cell: u32) -> Option<&[Event]>
+// The place of the board's latest event on the cell. What comes after it changes nothing for the board, and a board with no
+// event there knows nothing.
+fn latest(history: &[Event], board: u32, cell: u32) -> Option<usize>
     requires boards { ⌜ onBoards (now history) ≡ true ⌝ }
     requires few { ⌜ length (now history) ≤ 2048 ⌝ }
-    ensures { λ r. ⌜ Settled (now (history .entry)) board cell (mapped now r) ⌝ }
+    ensures { λ r. ⌜ Settled (now (history .entry)) board cell r ⌝ }
 {
-    match newest(history, board, cell) {
-        Some(latest) => Some(&history[0..latest + 1]),
-        None => None,
-    }
+    newest(history, board, cell)
 }
 
 // For each writer, below which number its writes of the cell are overwritten for the board.
@@ -125,8 +121,8 @@ pub(crate) fn overwritten(history: &[Event], board: u32, cell: u32) -> [u32; WRI
     requires board { ⌜ board < 8 ⌝ }
     ensures { λ r. ⌜ r ≡ bounds (now (history .entry)) cell board ⌝ }
 {
-    match up_to_latest(history, board, cell) {
-        Some(part) => view_of(&survey(part, cell), board as usize).over,
+    match latest(history, board, cell) {
+        Some(place) => view_of(&survey(&history[0..place + 1], cell), board as usize).over,
         None => [0; WRITERS],
     }
 }

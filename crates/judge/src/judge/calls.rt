@@ -77,6 +77,7 @@ impl<'a> Judge<'a> {
     fn history(&self) -> &[Event]
         ensures value { λ r. ⌜ now r ≡ historyOf (now (self .entry)) ⌝ }
         ensures boards { λ r. ⌜ onBoards (now r) ≡ true ⌝ }
+        ensures known { λ _. ⌜ onBoards (historyOf (now (self .entry))) ≡ true ⌝ }
         ensures few { λ r. ⌜ length (now r) ≤ 2048 ⌝ }
         ensures owner { λ _. ⌜ OwnerDecided ⌝ }
         ensures discipline { λ _. ⌜ DisciplineDecided ⌝ }
@@ -151,6 +152,7 @@ impl<'a> Judge<'a> {
         number: u32,
     ) -> Result<bool, Refusal>
         ensures answer { λ r. ⌜ r ≡ readableAnswer (historyOf (now (self .entry))) boards (S·Source .words (now (source .entry))) board cell number ⌝ }
+        ensures boards { λ _. ⌜ onBoards (historyOf (now (self .entry))) ≡ true ⌝ }
         ensures decided { λ _. ⌜ ReadableDecided ⌝ }
     {
         let history = self.history();
@@ -172,6 +174,7 @@ impl<'a> Judge<'a> {
         word: u32,
     ) -> Result<Option<u32>, Refusal>
         ensures answer { λ r. ⌜ r ≡ legalAnswer (historyOf (now (self .entry))) boards (S·Source .words (now (source .entry))) board cell word ⌝ }
+        ensures boards { λ _. ⌜ onBoards (historyOf (now (self .entry))) ≡ true ⌝ }
         ensures decided { λ _. ⌜ LegalDecided ⌝ }
         ensures examples { λ _. ⌜ Examples ⌝ }
     {

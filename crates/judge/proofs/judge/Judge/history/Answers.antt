@@ -20,6 +20,7 @@ returns c =
     record {
       value = search needs;
       boards = ap (λ n. onBoards (take n (j .list .now))) same ∙ j .boards;
+      known = j .boards;
       few = omega (arith, j .few, j .within, length-take-le (j .noted - 0) (j .list .now));
       owner = owner-decided;
       discipline = discipline-decided;
