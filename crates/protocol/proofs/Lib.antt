@@ -1,0 +1,10 @@
+pub mod Debts
+pub mod Examples
+pub mod Keeps
+pub mod Kept
+pub mod Lines
+pub mod Owned
+pub mod Six
+pub mod Steps
+pub mod Touches
+pub mod Writes
