@@ -12,7 +12,7 @@ use Rattle.model.specs.declared.event.Event.{Event}
 use Rattle.order.specs.Order.{At, next, more, AcquireOf, ReleaseOf, Owns, Disciplined}
 use Rattle.order.specs.Test.{ownerBy, ownerOf}
 use Rattle.order.proofs.History.{none-not-some, nothing-not-some, acquire-not-release, write-not-acquire, write-not-release, at-within, at-inv}
-use Rattle.order.proofs.Owners.{owns-up, owns-old, owner-more, owner-decided}
+use Rattle.order.proofs.Owners.{owns-up, owns-old, owner-more, owner-tells}
 use Rattle.protocol.specs.Machine.{Cell, Move, reads, writes, acquires, releases, writes-back, completes, ejects, rests, Moves}
 use Rattle.protocol.specs.Runs.{eventOf, noting, Run, opens, makes, elsewhere, owning, ownerIn}
 use Rattle.protocol.specs.Rules.{DisciplinedAt, OwnersKept}
@@ -71,8 +71,8 @@ disciplined-more h g c free mine d = record { acquires = acquires; releases = re
 disciplined-move : (c : ℕ) (h : List Event) (m : Move) {s t : Cell} → s .owner ≡ ownerOf h c → Moves m s t → DisciplinedAt h c → DisciplinedAt (noting c m h) c
 disciplined-move c h (reads b w) o v d = d
 disciplined-move c h (writes b w) o v d = disciplined-more h (eventOf c b (Action.Write w)) c (λ is. absurd (write-not-acquire {w = w} refl (is .1))) (λ is. absurd (write-not-release {w = w} refl (is .1))) d
-disciplined-move c h (acquires b) o v d = disciplined-more h (eventOf c b Action.Acquire) c (λ is p owns. nothing-not-some (sym (v .guard) ∙ o ∙ owner-decided h c p .1 owns)) (λ is. absurd (acquire-not-release refl (is .1))) d
-disciplined-move c h (releases b) o v d = disciplined-more h (eventOf c b Action.Release) c (λ is. absurd (acquire-not-release (is .1) refl)) (λ is. owner-decided h c b .0 (sym o ∙ v .guard .0)) d
+disciplined-move c h (acquires b) o v d = disciplined-more h (eventOf c b Action.Acquire) c (λ is p owns. nothing-not-some (sym (v .guard) ∙ o ∙ owner-tells h c p .1 owns)) (λ is. absurd (acquire-not-release refl (is .1))) d
+disciplined-move c h (releases b) o v d = disciplined-more h (eventOf c b Action.Release) c (λ is. absurd (acquire-not-release (is .1) refl)) (λ is. owner-tells h c b .0 (sym o ∙ v .guard .0)) d
 disciplined-move c h (writes-back b) o v d = d
 disciplined-move c h (completes b w) o v d = d
 disciplined-move c h (ejects b) o v d = d
