@@ -1,0 +1,66 @@
+-- The steps of a trace after its header.
+use mathlib.Core.Bool.{cond}
+use mathlib.Core.List.{List, [], _∷_}
+use Prim.Native.Nat.{ℕ, _+_}
+use lib.Dec.{ltb}
+use Rattle.std.specs.declared.option.Option.{Option}
+use Rattle.std.specs.declared.option.Option.the-variants.{Some, None}
+use Rattle.std.specs.declared.result.Result.{Result}
+use Rattle.std.specs.declared.result.Result.the-variants.{Ok, Err}
+use Rattle.model.specs.declared.refusal.Refusal.{Refusal}
+use Rattle.model.specs.declared.refusal.Refusal.the-variants.{MalformedLine, TextTooLong}
+use Rattle.grammar.specs.declared.kind.Kind.{Kind}
+use Rattle.grammar.specs.declared.trace_step.TraceStep.{TraceStep}
+use Rattle.grammar.specs.Pieces.{Piece, remark, step, field}
+use Rattle.grammar.specs.Steps.{stepOf}
+use Rattle.text.specs.declared.fault.Fault.{Fault}
+use Rattle.text.specs.declared.placed_step.PlacedStep.{PlacedStep}
+use Rattle.text.specs.Faults.{faultAt}
+use Rattle.text.specs.Telling.{Told}
+
+-- a step after i others, of which a trace has 2,048 at most
+abbrev pub room : ℕ → Option TraceStep → Result TraceStep Refusal
+room i (Some s) = cond (ltb i 2048) (Ok s) (Err TextTooLong)
+room i None = Err MalformedLine
+
+abbrev pub stepSaid : Kind → ℕ → Option Piece → Result TraceStep Refusal
+stepSaid k i (Some (step c r)) = room i (stepOf k c r)
+stepSaid k i (Some (remark r)) = Err MalformedLine
+stepSaid k i (Some (field l)) = Err MalformedLine
+stepSaid k i None = Err MalformedLine
+
+-- the steps up to the end or to the first fault, and that fault
+pub record Course : Type 0 where
+  pub steps : List PlacedStep
+  pub fault : Option Fault
+
+abbrev pub broken : Fault → Course
+broken f = record { steps = []; fault = Some f }
+
+abbrev pub further : PlacedStep → Course → Course
+further p c = record { steps = p ∷ c .steps; fault = c .fault }
+
+abbrev pub onward : Result TraceStep Refusal → ℕ → Course → Course
+onward (Ok s) n c = further (record { line = n; step = s }) c
+onward (Err r) n c = broken (faultAt r n)
+
+-- from lines that come after i steps
+abbrev pub course : Kind → ℕ → List Told → Course
+course k i [] = record { steps = []; fault = None }
+course k i (t ∷ ts) = onward (stepSaid k i (t .says)) (t .line) (course k (i + 1) ts)
+
+-- what the next step of a course is, and the course after it
+abbrev pub nextIn : List PlacedStep → Option Fault → Result (Option PlacedStep) Fault
+nextIn (p ∷ ps) f = Ok (Some p)
+nextIn [] None = Ok None
+nextIn [] (Some f) = Err f
+
+abbrev pub next : Course → Result (Option PlacedStep) Fault
+next c = nextIn (c .steps) (c .fault)
+
+abbrev pub others : List PlacedStep → List PlacedStep
+others [] = []
+others (p ∷ ps) = ps
+
+abbrev pub rest : Course → Course
+rest c = record { steps = others (c .steps); fault = c .fault }

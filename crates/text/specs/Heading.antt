@@ -1,0 +1,64 @@
+-- The header of a trace: the line trace=, then boards=, cells=, entries= and start=.
+use mathlib.Core.Bool.{cond, _&&_}
+use mathlib.Core.List.{List}
+use Prim.Native.Nat.{ℕ}
+use lib.Chars.{codes}
+use lib.Dec.{leb}
+use Rattle.std.specs.declared.option.Option.{Option}
+use Rattle.std.specs.declared.option.Option.the-variants.{Some, None}
+use Rattle.std.specs.declared.result.Result.{Result}
+use Rattle.std.specs.declared.result.Result.the-variants.{Ok, Err}
+use Rattle.model.specs.declared.refusal.Refusal.{Refusal}
+use Rattle.model.specs.declared.refusal.Refusal.the-variants.{MalformedLine, SizeOutOfRange}
+use Rattle.grammar.specs.declared.kind.Kind.{Kind}
+use Rattle.grammar.specs.declared.kind.Kind.the-variants.{Run, Log}
+use Rattle.grammar.specs.Fields.{kindOf, numberAfter}
+use Rattle.grammar.specs.Pieces.{Piece, remark, step, field}
+use Rattle.text.specs.declared.fault.Fault.{Fault}
+use Rattle.text.specs.declared.header.Header.{Header}
+use Rattle.text.specs.Telling.{Left, taken}
+
+-- the kind that is wanted, and no other
+abbrev pub wanted : Kind → Option Kind → Result (Unit {0}) Refusal
+wanted Run (Some Run) = Ok tt
+wanted Run (Some Log) = Err MalformedLine
+wanted Log (Some Run) = Err MalformedLine
+wanted Log (Some Log) = Ok tt
+wanted k None = Err MalformedLine
+
+abbrev pub kindSaid : Kind → Option Piece → Result (Unit {0}) Refusal
+kindSaid k (Some (field l)) = wanted k (kindOf l)
+kindSaid k (Some (remark r)) = Err MalformedLine
+kindSaid k (Some (step c r)) = Err MalformedLine
+kindSaid k None = Err MalformedLine
+
+abbrev pub ranged : ℕ → ℕ → Option ℕ → Result ℕ Refusal
+ranged low high (Some n) = cond (leb low n && leb n high) (Ok n) (Err SizeOutOfRange)
+ranged low high None = Err MalformedLine
+
+-- a number from low to high after the name p
+abbrev pub numberSaid : List ℕ → ℕ → ℕ → Option Piece → Result ℕ Refusal
+numberSaid p low high (Some (field l)) = ranged low high (numberAfter p l)
+numberSaid p low high (Some (remark r)) = Err MalformedLine
+numberSaid p low high (Some (step c r)) = Err MalformedLine
+numberSaid p low high None = Err MalformedLine
+
+abbrev pub kindLine : Kind → Left → Result (Unit {0}) Fault × Left
+kindLine k = taken (kindSaid k)
+
+abbrev pub numberLine : List ℕ → ℕ → ℕ → Left → Result ℕ Fault × Left
+numberLine p low high = taken (numberSaid p low high)
+
+-- the next line after one that was taken; the first fault goes first
+abbrev pub andNext : {X Y : Type 0} → Result X Fault × Left → (X → Left → Result Y Fault × Left) → Result Y Fault × Left
+andNext (Ok x, a) f = f x a
+andNext (Err e, a) f = (Err e, a)
+
+abbrev pub heading : Kind → Left → Result Header Fault × Left
+heading k a =
+    andNext (kindLine k a) (λ _ a₁.
+    andNext (numberLine (codes "boards=") 1 8 a₁) (λ boards a₂.
+    andNext (numberLine (codes "cells=") 1 64 a₂) (λ cells a₃.
+    andNext (numberLine (codes "entries=") 1 8 a₃) (λ entries a₄.
+    andNext (numberLine (codes "start=") 0 4294967295 a₄) (λ start a₅.
+    (Ok (record { boards = boards; cells = cells; entries = entries; start = start }), a₅))))))
