@@ -2,6 +2,8 @@
 use mathlib.Core.Bool.{cond, _||_}
 use Prim.Native.Nat.{ℕ}
 use lib.Dec.{eqb}
+use Rattle.std.specs.declared.result.Result.{Result}
+use Rattle.std.specs.declared.result.Result.the-variants.{Ok, Err}
 use Rattle.model.specs.Refusals.{numberOf}
 use Rattle.model.specs.declared.refusal.Refusal.{Refusal}
 use Rattle.text.specs.declared.fault.Fault.{Fault}
@@ -13,3 +15,7 @@ layerOf n = cond (eqb n 3) Header (cond (eqb n 4 || eqb n 6) Text Judge)
 
 abbrev pub faultAt : Refusal → ℕ → Fault
 faultAt r n = record { refusal = r; line = n; layer = layerOf (numberOf r) }
+
+abbrev pub atLine : {X : Type 0} → Result X Refusal → ℕ → Result X Fault
+atLine (Ok x) n = Ok x
+atLine (Err r) n = Err (faultAt r n)

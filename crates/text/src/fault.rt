@@ -1,5 +1,5 @@
 ghost use mathlib.Core.Path.{_≡_};
-ghost use Rattle.text.specs.Faults.{layerOf, faultAt};
+ghost use Rattle.text.specs.Faults.{layerOf, faultAt, atLine};
 use model::refusal::Refusal;
 use model::refusal::RefusalDebug;
 use model::refusal::RefusalPartialEq;
@@ -40,5 +40,15 @@ impl Fault {
             line,
             layer,
         }
+    }
+}
+
+// A refusal becomes a fault at that line.
+pub(crate) fn at_line<T>(answer: Result<T, Refusal>, line: u32) -> Result<T, Fault>
+    ensures { λ r. ⌜ r ≡ atLine answer line ⌝ }
+{
+    match answer {
+        Ok(value) => Ok(value),
+        Err(refusal) => Err(Fault::new(refusal, line)),
     }
 }

@@ -4,7 +4,10 @@ ghost use denote.Ref.{now};
 use super::position::Position;
 
 pub mod calls;
+mod header_lines;
 mod lines;
+mod remarks;
+mod step_lines;
 
 // The caller's text and how far it was read.
 #[derive(Drop)]
