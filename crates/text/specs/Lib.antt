@@ -5,3 +5,4 @@ pub mod Lines
 pub mod Readers
 pub mod Reading
 pub mod Telling
+pub mod Traces

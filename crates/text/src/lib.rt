@@ -6,3 +6,4 @@ pub mod placed_step;
 mod position;
 pub mod reader;
 mod said;
+pub mod trace;

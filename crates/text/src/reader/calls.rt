@@ -1,10 +1,13 @@
 ghost use mathlib.Core.Path.{_≡_};
+ghost use Prim.Native.Nat.{_≤_};
+ghost use lib.ListN.{length};
 ghost use Rattle.std.specs.Options.{Cases, mapped};
 ghost use Rattle.grammar.specs.Pieces.{shown};
 ghost use Rattle.text.specs.Lines.{readable, lines};
-ghost use Rattle.text.specs.Readers.{linesAhead, firstPiece, noLines, Kept, Passed};
+ghost use Rattle.text.specs.Readers.{linesAhead, firstPiece, noLines, left, Kept, Passed};
 use super::super::position::LineGuard;
 use super::super::position::Position;
+ghost use Rattle.text.specs.Telling.{leftFrom};
 use super::Reader;
 use super::lines::none_left;
 use super::lines::take_item;
@@ -19,11 +22,19 @@ impl<'a> Reader<'a> {
         ensures ahead { λ r. ⌜ linesAhead r ≡ lines (readable (now (text .entry))) ⌝ }
         ensures line { λ r. ⌜ r .at .line ≡ 0 ⌝ }
     {
-        let text = if text.len() > MOST_BYTES {
-            &text[0..0]
+        if text.len() > MOST_BYTES {
+            Reader::over(&text[0..0])
         } else {
-            text
-        };
+            Reader::over(text)
+        }
+    }
+
+    pub(crate) fn over(text: &'a [u8]) -> Reader<'a>
+        requires { ⌜ length (now text) ≤ 60000 ⌝ }
+        ensures ahead { λ r. ⌜ linesAhead r ≡ lines (now (text .entry)) ⌝ }
+        ensures line { λ r. ⌜ r .at .line ≡ 0 ⌝ }
+        ensures whole { λ r. ⌜ left r ≡ leftFrom 1 (lines (now (text .entry))) ⌝ }
+    {
         Reader {
             text,
             at: Position { byte: 0, line: 0 },
