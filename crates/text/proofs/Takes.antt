@@ -22,7 +22,7 @@ use Rattle.text.specs.Readers.{linesAhead, laterLines, firstPiece, isRemark, l
 use Rattle.text.specs.Telling.{Told, Left, heard, told, leftFrom, answered, taking, taken}
 
 -- any other line tells what it says
-heard-other : (n : ℕ) (p : Option Piece) (ts : List Told) → isRemark p ≡ false → heard n p ts ≡ record { line = n; says = p } ∷ ts
+pub heard-other : (n : ℕ) (p : Option Piece) (ts : List Told) → isRemark p ≡ false → heard n p ts ≡ record { line = n; says = p } ∷ ts
 heard-other n None ts h = refl
 heard-other n (Some (remark r)) ts h = absurd (true≢false h)
 heard-other n (Some (step c r)) ts h = refl
@@ -50,7 +50,7 @@ module _ {X : Type 0} (f : Option Piece → Result X Refusal) (strict : f None �
       ∙ ap (λ us. (Err (faultAt r n), record { telling = us; end = n + length (l ∷ ls) })) (sym (heard-other n (andThen l piece) (told (n + 1) ls) h))
 
 -- the reader new is one line further on than old, or where old is
-passed-left : (old new : Reader) → Passed old new → left new ≡ leftFrom (old .at .line + 1 + 1) (laterLines (linesAhead old))
+pub passed-left : (old new : Reader) → Passed old new → left new ≡ leftFrom (old .at .line + 1 + 1) (laterLines (linesAhead old))
 passed-left old new p = ap (λ n. leftFrom (n + 1) (linesAhead new)) (p .one-more) ∙ ap (leftFrom (old .at .line + 1 + 1)) (p .lines-left)
 
 kept-left : (old new : Reader) → Kept old new → left new ≡ left old

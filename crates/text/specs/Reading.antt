@@ -28,12 +28,12 @@ abbrev pub headerIn : Kind → List ℕ → Result Header Fault
 headerIn k text = opening k text .0
 
 -- a text with a fault before its steps has no steps
-abbrev pub courseAfter : Kind → ℕ → Result Header Fault → Left → Course
-courseAfter k i (Ok h) a = course k i (a .telling)
-courseAfter k i (Err f) a = broken f
+abbrev pub courseAfter : Result Header Fault → Course → Course
+courseAfter (Ok h) c = c
+courseAfter (Err f) c = broken f
 
 abbrev pub courseIn : Kind → List ℕ → Course
-courseIn k text = courseAfter k 0 (headerIn k text) (opening k text .1)
+courseIn k text = courseAfter (headerIn k text) (course k 0 (opening k text .1 .telling))
 
 pub record Trace : Type 0 where
   pub header : Header

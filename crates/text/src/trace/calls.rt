@@ -1,8 +1,9 @@
 ghost use mathlib.Core.Path.{_≡_};
 ghost use Rattle.text.specs.Course.{next as nextOf, rest};
 ghost use Rattle.text.specs.Reading.{headerIn, courseIn};
-ghost use Rattle.text.specs.Traces.{courseOf};
+ghost use Rattle.text.specs.Traces.{stepsOf, courseOf};
 use super::super::fault::Fault;
+use super::super::fault::at_line;
 use super::super::header::Header;
 use super::super::placed_step::PlacedStep;
 use super::super::reader::Reader;
@@ -40,5 +41,32 @@ impl<'a> Trace<'a> {
         ensures { λ r. ⌜ r ≡ now (self .entry) .header ⌝ }
     {
         self.header
+    }
+
+    // The next step with its line, or None at the end of the text, or the first fault. Neither the end nor a fault is
+    // passed: whoever asks again is answered the same.
+    pub fn next(&mut self) -> Result<Option<PlacedStep>, Fault>
+        ensures answer { λ r. ⌜ r ≡ nextOf (courseOf (now (self .entry))) ⌝ }
+        ensures after { λ _. ⌜ courseOf (now (self .exit)) ≡ rest (courseOf (now (self .entry))) ⌝ }
+        ensures header { λ _. ⌜ now (self .exit) .header ≡ now (self .entry) .header ⌝ }
+    {
+        match self.header {
+            Ok(_) => self.next_step(),
+            Err(fault) => Err(fault),
+        }
+    }
+
+    fn next_step(&mut self) -> Result<Option<PlacedStep>, Fault>
+        ensures answer { λ r. ⌜ r ≡ nextOf (stepsOf (now (self .entry))) ⌝ }
+        ensures after { λ _. ⌜ stepsOf (now (self .exit)) ≡ rest (stepsOf (now (self .entry))) ⌝ }
+        ensures header { λ _. ⌜ now (self .exit) .header ≡ now (self .entry) .header ⌝ }
+    {
+        let line = self.reader.skip_remarks();
+        if self.reader.at_end() {
+            return Ok(None);
+        }
+        let step = at_line(self.reader.try_step(self.kind, self.steps), line)?;
+        self.steps += 1;
+        Ok(Some(PlacedStep { line, step }))
     }
 }
