@@ -64,3 +64,11 @@ others (p ∷ ps) = ps
 
 abbrev pub rest : Course → Course
 rest c = record { steps = others (c .steps); fault = c .fault }
+
+-- how a course ends
+abbrev pub endOf : Option Fault → Result (Unit {0}) Fault
+endOf None = Ok tt
+endOf (Some f) = Err f
+
+abbrev pub ending : Course → Result (Unit {0}) Fault
+ending c = endOf (c .fault)

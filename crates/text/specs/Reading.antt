@@ -49,3 +49,7 @@ complete (Err f) c = Err f
 
 abbrev pub reading : Kind → List ℕ → Result Trace Fault
 reading k text = complete (headerIn k text) (courseIn k text)
+
+abbrev pub headerOf : Result Trace Fault → Result Header Fault
+headerOf (Ok t) = Ok (t .header)
+headerOf (Err f) = Err f
