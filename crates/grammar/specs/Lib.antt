@@ -1,4 +1,5 @@
 pub mod Fields
 pub mod Numbers
 pub mod Pieces
+pub mod Printing
 pub mod Steps

@@ -1,5 +1,5 @@
 -- What a line is: a remark, a step or a header field. A line of none of these forms is no piece.
-use mathlib.Core.Bool.{Bool, false, cond, _||_}
+use mathlib.Core.Bool.{Bool, true, false, cond, _||_}
 use mathlib.Core.List.{List, [], _∷_}
 use Prim.Native.Nat.{ℕ}
 use lib.Dec.{eqb}
@@ -44,3 +44,20 @@ plainPiece l = stepOrField l (letterAndRest l)
 abbrev pub piece : List ℕ → Option Piece
 piece [] = plainPiece []
 piece (c ∷ cs) = cond (eqb c 35) (Some (remark cs)) (plainPiece (c ∷ cs))
+
+abbrev pub isRemark : Option Piece → Bool
+isRemark None = false
+isRemark (Some (remark r)) = true
+isRemark (Some (step c r)) = false
+isRemark (Some (field l)) = false
+
+-- the line of a header field, and the letter and the rest of a step
+abbrev pub fieldOf : Piece → Option (List ℕ)
+fieldOf (field l) = Some l
+fieldOf (remark r) = None
+fieldOf (step c r) = None
+
+abbrev pub stepParts : Piece → Option (ℕ × List ℕ)
+stepParts (step c r) = Some (c, r)
+stepParts (remark r) = None
+stepParts (field l) = None

@@ -12,6 +12,7 @@ use Rattle.grammar.specs.declared.kind.Kind.the-variants.{Run, Log}
 use Rattle.grammar.specs.declared.trace_step.TraceStep.{TraceStep}
 use Rattle.grammar.specs.declared.trace_step.TraceStep.the-variants.{Plain, ReadWord}
 use Rattle.grammar.specs.Numbers.{andThen, placeAlone, placeWord}
+use Rattle.grammar.specs.Pieces.{Piece, stepParts}
 
 -- board.cell
 abbrev pub at : List ℕ → (ℕ → ℕ → Step) → Option TraceStep
@@ -44,6 +45,10 @@ stepOf k c s =
     (cond (eqb c 98) (at s WriteBack)
     (cond (eqb c 101) (at s Eject)
     (cond (eqb c 100) (landOf s) None))))))
+
+-- the step that a line says, by its form
+abbrev pub stepIn : Kind → Piece → Option TraceStep
+stepIn k p = andThen (stepParts p) (λ q. stepOf k (q .0) (q .1))
 
 -- the step without the word that a log adds
 abbrev pub plainStep : TraceStep → Step

@@ -16,13 +16,13 @@ use Rattle.model.specs.declared.refusal.Refusal.the-variants.{TextTooLong}
 use Rattle.grammar.specs.declared.kind.Kind.{Kind}
 use Rattle.grammar.specs.declared.trace_step.TraceStep.{TraceStep}
 use Rattle.grammar.specs.Numbers.{andThen}
-use Rattle.grammar.specs.Pieces.{Piece, remark, step, field, piece}
-use Rattle.grammar.specs.Steps.{stepOf}
+use Rattle.grammar.specs.Pieces.{Piece, piece, isRemark}
+use Rattle.grammar.specs.Steps.{stepIn}
 use Rattle.text.specs.declared.placed_step.PlacedStep.{PlacedStep}
 use Rattle.text.specs.declared.reader.Reader.{Reader}
 use Rattle.text.specs.Course.{room, stepSaid, further, onward, course}
 use Rattle.text.specs.Faults.{atLine}
-use Rattle.text.specs.Readers.{linesAhead, laterLines, firstPiece, isRemark, left, Kept, Passed}
+use Rattle.text.specs.Readers.{linesAhead, laterLines, firstPiece, left, Kept, Passed}
 use Rattle.text.specs.Telling.{told}
 use Rattle.text.proofs.Takes.{heard-other, passed-left}
 
@@ -35,14 +35,8 @@ room-left i (Some t) s e =
       | false ↦ λ _ q. let z : _≡_ {A = ℕ} 0 1 = cc in absurd (omega arith)
     ] refl e
 
-said-room : (k : Kind) (i : ℕ) (p : Option Piece) (s : TraceStep) → Ok s ≡ stepSaid k i p → i < 2048
-said-room k i None s e = let z : _≡_ {A = ℕ} 0 1 = cc in absurd (omega arith)
-said-room k i (Some (remark r)) s e = let z : _≡_ {A = ℕ} 0 1 = cc in absurd (omega arith)
-said-room k i (Some (step c r)) s e = room-left i (stepOf k c r) s e
-said-room k i (Some (field l)) s e = let z : _≡_ {A = ℕ} 0 1 = cc in absurd (omega arith)
-
 pub step-room : (k : Kind) (i n : ℕ) (p : Option Piece) (r : Result TraceStep Refusal) (s : TraceStep) → Ok s ≡ atLine r n → r ≡ stepSaid k i p → i < 2048
-step-room k i n p (Ok x) s o e = said-room k i p x e
+step-room k i n p (Ok x) s o e = room-left i (andThen p (stepIn k)) x e
 step-room k i n p (Err r) s o e = let z : _≡_ {A = ℕ} 0 1 = cc in absurd (omega arith)
 
 course-first : (k : Kind) (i n : ℕ) (ls : List (Option (List ℕ))) (s : TraceStep) → isRemark (firstPiece ls) ≡ false → Ok s ≡ stepSaid k i (firstPiece ls) → course k i (told n ls) ≡ further (record { line = n; step = s }) (course k (i + 1) (told (n + 1) (laterLines ls)))

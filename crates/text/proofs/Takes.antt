@@ -14,11 +14,11 @@ use Rattle.std.proofs.shelf.Tests.{true≢false}
 use Rattle.model.specs.declared.refusal.Refusal.{Refusal}
 use Rattle.model.specs.declared.refusal.Refusal.the-variants.{MalformedLine}
 use Rattle.grammar.specs.Numbers.{andThen}
-use Rattle.grammar.specs.Pieces.{Piece, remark, step, field, piece}
+use Rattle.grammar.specs.Pieces.{Piece, remark, step, field, piece, isRemark}
 use Rattle.text.specs.declared.reader.Reader.{Reader}
 use Rattle.text.specs.declared.fault.Fault.{Fault}
 use Rattle.text.specs.Faults.{faultAt, atLine}
-use Rattle.text.specs.Readers.{linesAhead, laterLines, firstPiece, isRemark, left, Kept, Passed}
+use Rattle.text.specs.Readers.{linesAhead, laterLines, firstPiece, left, Kept, Passed}
 use Rattle.text.specs.Telling.{Told, Left, heard, told, leftFrom, answered, taking, taken}
 
 -- any other line tells what it says

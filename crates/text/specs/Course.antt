@@ -11,8 +11,9 @@ use Rattle.model.specs.declared.refusal.Refusal.{Refusal}
 use Rattle.model.specs.declared.refusal.Refusal.the-variants.{MalformedLine, TextTooLong}
 use Rattle.grammar.specs.declared.kind.Kind.{Kind}
 use Rattle.grammar.specs.declared.trace_step.TraceStep.{TraceStep}
-use Rattle.grammar.specs.Pieces.{Piece, remark, step, field}
-use Rattle.grammar.specs.Steps.{stepOf}
+use Rattle.grammar.specs.Numbers.{andThen}
+use Rattle.grammar.specs.Pieces.{Piece}
+use Rattle.grammar.specs.Steps.{stepIn}
 use Rattle.text.specs.declared.fault.Fault.{Fault}
 use Rattle.text.specs.declared.placed_step.PlacedStep.{PlacedStep}
 use Rattle.text.specs.Faults.{faultAt}
@@ -24,10 +25,7 @@ room i (Some s) = cond (ltb i 2048) (Ok s) (Err TextTooLong)
 room i None = Err MalformedLine
 
 abbrev pub stepSaid : Kind → ℕ → Option Piece → Result TraceStep Refusal
-stepSaid k i (Some (step c r)) = room i (stepOf k c r)
-stepSaid k i (Some (remark r)) = Err MalformedLine
-stepSaid k i (Some (field l)) = Err MalformedLine
-stepSaid k i None = Err MalformedLine
+stepSaid k i o = room i (andThen o (stepIn k))
 
 -- the steps up to the end or to the first fault, and that fault
 pub record Course : Type 0 where

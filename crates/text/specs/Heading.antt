@@ -13,7 +13,8 @@ use Rattle.model.specs.declared.refusal.Refusal.the-variants.{MalformedLine, Si
 use Rattle.grammar.specs.declared.kind.Kind.{Kind}
 use Rattle.grammar.specs.declared.kind.Kind.the-variants.{Run, Log}
 use Rattle.grammar.specs.Fields.{kindOf, numberAfter}
-use Rattle.grammar.specs.Pieces.{Piece, remark, step, field}
+use Rattle.grammar.specs.Numbers.{andThen}
+use Rattle.grammar.specs.Pieces.{Piece, fieldOf}
 use Rattle.text.specs.declared.fault.Fault.{Fault}
 use Rattle.text.specs.declared.header.Header.{Header}
 use Rattle.text.specs.Telling.{Left, taken}
@@ -27,21 +28,15 @@ wanted Log (Some Log) = Ok tt
 wanted k None = Err MalformedLine
 
 abbrev pub kindSaid : Kind → Option Piece → Result (Unit {0}) Refusal
-kindSaid k (Some (field l)) = wanted k (kindOf l)
-kindSaid k (Some (remark r)) = Err MalformedLine
-kindSaid k (Some (step c r)) = Err MalformedLine
-kindSaid k None = Err MalformedLine
+kindSaid k o = wanted k (andThen (andThen o fieldOf) kindOf)
 
 abbrev pub ranged : ℕ → ℕ → Option ℕ → Result ℕ Refusal
 ranged low high (Some n) = cond (leb low n && leb n high) (Ok n) (Err SizeOutOfRange)
 ranged low high None = Err MalformedLine
 
--- a number from low to high after the name p
+-- a number from low to high after p, the field's name and its equals sign
 abbrev pub numberSaid : List ℕ → ℕ → ℕ → Option Piece → Result ℕ Refusal
-numberSaid p low high (Some (field l)) = ranged low high (numberAfter p l)
-numberSaid p low high (Some (remark r)) = Err MalformedLine
-numberSaid p low high (Some (step c r)) = Err MalformedLine
-numberSaid p low high None = Err MalformedLine
+numberSaid p low high o = ranged low high (andThen (andThen o fieldOf) (numberAfter p))
 
 abbrev pub kindLine : Kind → Left → Result (Unit {0}) Fault × Left
 kindLine k = taken (kindSaid k)

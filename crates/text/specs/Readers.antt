@@ -7,7 +7,7 @@ use lib.ListN.{length, drop}
 use Rattle.std.specs.declared.option.Option.{Option}
 use Rattle.std.specs.declared.option.Option.the-variants.{Some, None}
 use Rattle.grammar.specs.Numbers.{andThen}
-use Rattle.grammar.specs.Pieces.{Piece, remark, step, field, piece}
+use Rattle.grammar.specs.Pieces.{Piece, piece}
 use Rattle.text.specs.declared.position.Position.{Position}
 use Rattle.text.specs.declared.reader.Reader.{Reader}
 use Rattle.text.specs.Lines.{lines}
@@ -38,12 +38,6 @@ noLines (l ∷ ls) = false
 -- the form of the next line
 abbrev pub firstPiece : List (Option (List ℕ)) → Option Piece
 firstPiece ls = andThen (firstLine ls) piece
-
-abbrev pub isRemark : Option Piece → Bool
-isRemark None = false
-isRemark (Some (remark r)) = true
-isRemark (Some (step c r)) = false
-isRemark (Some (field l)) = false
 
 -- one line further on in a text
 pub record Further (text : List ℕ) (old new : Position) : Type 0 where
