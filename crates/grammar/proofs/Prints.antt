@@ -1,6 +1,6 @@
 -- What is printed is read back, number by number and line by line.
 use mathlib.Core.Path.{_≡_, refl, sym, ap, subst, _∙_}
-use mathlib.Core.Bool.{Bool, true, false, cond, not, _||_}
+use mathlib.Core.Bool.{Bool, true, false, cond, not, _&&_, _||_}
 use mathlib.Core.List.{List, [], _∷_, _++_}
 use mathlib.Core.Logic.{⊎-elim}
 use Prim.Native.Nat.{ℕ, _+_, _-_, _*_, _/_, _%_, _^_, _≤_, _<_}
@@ -14,7 +14,7 @@ use Rattle.std.specs.declared.option.Option.{Option}
 use Rattle.std.specs.declared.option.Option.the-variants.{Some, None}
 use Rattle.std.proofs.shelf.Decimals.{decimal-by-steps}
 use Rattle.std.proofs.shelf.Lists.{append-assoc, append-nil}
-use Rattle.std.proofs.shelf.Tests.{cond-true, cond-false, and-from, le-leb, eq-eqb, ne-eqb, cases-eq, not-true, or-from, or-left}
+use Rattle.std.proofs.shelf.Tests.{cond-true, cond-false, and-from, and-parts, false≢true, le-leb, eq-eqb, ne-eqb, cases-eq, not-true, or-from, or-left}
 use Rattle.grammar.proofs.Bytes.{after-append}
 use Rattle.model.specs.declared.step.Step.{Step}
 use Rattle.model.specs.declared.step.Step.the-variants.{Read, Write, Acquire, Release, WriteBack, Eject, Land}
@@ -132,20 +132,28 @@ holds-append b (x ∷ xs) ys =
     ap (λ t. eqb x b || t) (holds-append b xs ys)
     ∙ elim (eqb x b) as (λ t. (t || (holds b xs || holds b ys)) ≡ ((t || holds b xs) || holds b ys)) [ true ↦ refl | false ↦ refl ]
 
--- a line whose name does not start as a remark or a step does
-module _ (a b : ℕ) (q : List ℕ) (no-remark : eqb a 35 ≡ false) (no-step : eqb b 61 ≡ false) (equals : holds 61 (a ∷ b ∷ q) ≡ true) where
-  pub field-is : (ds : List ℕ) → piece (a ∷ b ∷ (q ++ ds)) ≡ Some (field (a ∷ b ∷ (q ++ ds)))
-  field-is ds =
-      let l = a ∷ b ∷ (q ++ ds) in
-      cond-false (eqb a 35) (Some (remark (b ∷ (q ++ ds)))) (plainPiece l) no-remark
-      ∙ ap (stepOrField l) (cond-false (eqb b 61) (Some (a, q ++ ds)) None no-step)
-      ∙ cond-true (holds 61 l) (Some (field l)) None (holds-append 61 (a ∷ b ∷ q) ds ∙ or-left (holds 61 (a ∷ b ∷ q)) (holds 61 ds) equals)
+-- a field's name with its equals sign, which starts neither as a remark nor as a step
+abbrev pub named : List ℕ → Bool
+named [] = false
+named (a ∷ []) = false
+named (a ∷ b ∷ q) = not (eqb a 35) && (not (eqb b 61) && holds 61 (a ∷ b ∷ q))
 
-  pub field-back : (n : ℕ) → Word n → andThen (andThen (piece (fieldLine (a ∷ b ∷ q) n)) fieldOf) (numberAfter (a ∷ b ∷ q)) ≡ Some n
-  field-back n w =
-      ap (λ o. andThen (andThen o fieldOf) (numberAfter (a ∷ b ∷ q))) (field-is (decimal n))
-      ∙ ap (λ o. andThen o whole) (after-append (a ∷ b ∷ q) (decimal n))
-      ∙ whole-back n w
+field-is : (p ds : List ℕ) → named p ≡ true → piece (p ++ ds) ≡ Some (field (p ++ ds))
+field-is [] ds h = absurd (false≢true h)
+field-is (a ∷ []) ds h = absurd (false≢true h)
+field-is (a ∷ b ∷ q) ds h =
+    let l = a ∷ b ∷ (q ++ ds) in
+    let first = and-parts (not (eqb a 35)) (not (eqb b 61) && holds 61 (a ∷ b ∷ q)) h in
+    let second = and-parts (not (eqb b 61)) (holds 61 (a ∷ b ∷ q)) (first .1) in
+    cond-false (eqb a 35) (Some (remark (b ∷ (q ++ ds)))) (plainPiece l) (not-true (eqb a 35) (first .0))
+    ∙ ap (stepOrField l) (cond-false (eqb b 61) (Some (a, q ++ ds)) None (not-true (eqb b 61) (second .0)))
+    ∙ cond-true (holds 61 l) (Some (field l)) None (holds-append 61 (a ∷ b ∷ q) ds ∙ or-left (holds 61 (a ∷ b ∷ q)) (holds 61 ds) (second .1))
+
+pub field-back : (p : List ℕ) (n : ℕ) → named p ≡ true → Word n → andThen (andThen (piece (fieldLine p n)) fieldOf) (numberAfter p) ≡ Some n
+field-back p n h w =
+    ap (λ o. andThen (andThen o fieldOf) (numberAfter p)) (field-is p (decimal n) h)
+    ∙ ap (λ o. andThen o whole) (after-append p (decimal n))
+    ∙ whole-back n w
 
 -- no byte 10 is printed inside a line
 
@@ -200,3 +208,6 @@ step-told (ReadWord b c w) = refl
 pub kind-told : (k : Kind) → isRemark (piece (kindLine k)) ≡ false
 kind-told Run = refl
 kind-told Log = refl
+
+pub field-told : (p : List ℕ) (n : ℕ) → named p ≡ true → isRemark (piece (fieldLine p n)) ≡ false
+field-told p n h = ap isRemark (field-is p (decimal n) h)

@@ -2,6 +2,7 @@ pub mod Course
 pub mod Faults
 pub mod Heading
 pub mod Lines
+pub mod Printing
 pub mod Readers
 pub mod Reading
 pub mod Telling
