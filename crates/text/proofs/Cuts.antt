@@ -59,18 +59,18 @@ module _ (text r : List ℕ) (p : Position) (t : r ≡ drop (p .byte) text) (n :
     pub line-is : Some (take (n - 0) r) ≡ firstLine (linesAt text p)
     line-is = let z : n - 0 ≡ n = omega arith in rw z (sym (ap firstLine split))
 
-    pub line-passed : p .line ≤ p .byte → p .byte ≤ length text → Further text p (record { byte = p .byte + n + 1; line = p .line + 1 })
-    line-passed counted within =
+    pub line-passed : (new : Position) → new ≡ record { byte = p .byte + n + 1; line = p .line + 1 } → p .line ≤ p .byte → p .byte ≤ length text → Further text p new
+    line-passed new q counted within =
         let long = ap length t ∙ length-drop (p .byte) text in
-        let same : p .byte + (n + 1) ≡ p .byte + n + 1 = omega arith in
+        let byte : new .byte ≡ p .byte + (n + 1) = omega (arith, ap (λ a. a .byte) q) in
         record {
-          lines-left = ap (λ k. lines (drop k text)) (sym same)
+          lines-left = ap (λ k. lines (drop k text)) byte
               ∙ ap lines (sym (drop-drop (n + 1) (p .byte) text))
               ∙ ap (λ s. lines (drop (n + 1) s)) (sym t)
               ∙ sym (ap laterLines split);
-          one-more = refl;
+          one-more = ap (λ a. a .line) q;
           within = omega arith;
-          counted = omega arith;
+          counted = omega (arith, ap (λ a. a .line) q);
         }
 
 -- only an empty text has no lines

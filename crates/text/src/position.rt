@@ -1,4 +1,5 @@
 ghost use mathlib.Core.Path.{_≡_};
+ghost use Prim.Native.Nat.{_+_, _<_};
 ghost use denote.Ref.{name};
 
 // How far a text was read: the byte that comes next, and how many lines end before it.
@@ -6,6 +7,19 @@ ghost use denote.Ref.{name};
 pub(crate) struct Position {
     pub(crate) byte: usize,
     pub(crate) line: u32,
+}
+
+impl Position {
+    // The position after a line of so many bytes and its byte 10.
+    pub(crate) fn past(self, bytes: usize) -> Position
+        requires { ⌜ self .byte + bytes < 60000 ⌝ ∗ ⌜ self .line < 60000 ⌝ }
+        ensures { λ r. ⌜ r ≡ record { byte = self .byte + bytes + 1; line = self .line + 1 } ⌝ }
+    {
+        Position {
+            byte: self.byte + bytes + 1,
+            line: self.line + 1,
+        }
+    }
 }
 
 // Holds the position at the start of a line that is tried. When the guard is dropped the position is that start again,

@@ -42,7 +42,8 @@ impl Reader<'_> {
         ensures answer { λ r. ⌜ r ≡ kindLine kind (left (now (self .entry))) .0 ⌝ }
         ensures after { λ _. ⌜ left (now (self .exit)) ≡ kindLine kind (left (now (self .entry))) .1 ⌝ }
     {
-        let line = self.skip_remarks();
+        self.skip_remarks();
+        let line = self.line();
         at_line(self.try_kind(kind), line)
     }
 
@@ -50,7 +51,8 @@ impl Reader<'_> {
         ensures answer { λ r. ⌜ r ≡ numberLine (now (front .entry)) low high (left (now (self .entry))) .0 ⌝ }
         ensures after { λ _. ⌜ left (now (self .exit)) ≡ numberLine (now (front .entry)) low high (left (now (self .entry))) .1 ⌝ }
     {
-        let line = self.skip_remarks();
+        self.skip_remarks();
+        let line = self.line();
         at_line(self.try_number(front, low, high), line)
     }
 

@@ -28,14 +28,12 @@ fn take_line<'a>(text: &'a [u8], at: &mut Position) -> Option<&'a [u8]>
     ensures line { λ r. ⌜ mapped now r ≡ firstLine (linesAt (now (text .entry)) (now (at .entry))) ⌝ }
     ensures further { λ r. ⌜ Cases r (Unit {0}) (λ _. Further (now (text .entry)) (now (at .entry)) (now (at .exit))) ⌝ }
 {
-    let start = at.byte;
-    let rest = &text[start..];
+    let rest = &text[at.byte..];
     let n = find(rest, b'\n');
     if n >= rest.len() {
         return None;
     }
-    at.byte = start + n + 1;
-    at.line += 1;
+    *at = at.past(n);
     Some(&rest[0..n])
 }
 

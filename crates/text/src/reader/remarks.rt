@@ -25,13 +25,18 @@ impl Reader<'_> {
         }
     }
 
-    // Passes remarks up to a line that is none, whose number is the answer.
-    pub(crate) fn skip_remarks(&mut self) -> u32
-        ensures line { λ r. ⌜ r ≡ now (self .exit) .at .line + 1 ⌝ }
+    // Passes remarks up to a line that is none.
+    pub(crate) fn skip_remarks(&mut self)
         ensures same { λ _. ⌜ left (now (self .exit)) ≡ left (now (self .entry)) ⌝ }
         ensures fresh { λ _. ⌜ isRemark (firstPiece (linesAhead (now (self .exit)))) ≡ false ⌝ }
     {
         while self.pass_remark() {}
+    }
+
+    // The number of the line that comes next.
+    pub(crate) fn line(&self) -> u32
+        ensures { λ r. ⌜ r ≡ now (self .entry) .at .line + 1 ⌝ }
+    {
         self.at.line + 1
     }
 }

@@ -61,7 +61,8 @@ impl<'a> Trace<'a> {
         ensures after { λ _. ⌜ stepsOf (now (self .exit)) ≡ rest (stepsOf (now (self .entry))) ⌝ }
         ensures header { λ _. ⌜ now (self .exit) .header ≡ now (self .entry) .header ⌝ }
     {
-        let line = self.reader.skip_remarks();
+        self.reader.skip_remarks();
+        let line = self.reader.line();
         if self.reader.at_end() {
             return Ok(None);
         }

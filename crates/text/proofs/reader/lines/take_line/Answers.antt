@@ -16,5 +16,5 @@ returns c =
     let rest = take-rest text (at .byte) in
     record {
       line = line-is text _ at rest _ (c .find-n .ensures .value) (c .if-n-rest .left);
-      further = line-passed text _ at rest _ (c .find-n .ensures .value) (c .if-n-rest .left) (omega arith) (omega arith);
+      further = line-passed text _ at rest _ (c .find-n .ensures .value) (c .if-n-rest .left) _ (c .past .ensures) (omega arith) (omega arith);
     }
