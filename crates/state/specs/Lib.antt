@@ -1,3 +1,7 @@
+pub mod Cells
+pub mod Chains
+pub mod Laws
 pub mod Opening
+pub mod Sound
 pub mod States
 pub mod Steps
