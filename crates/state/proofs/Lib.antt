@@ -1,5 +1,11 @@
+pub mod Answered
+pub mod Cases
+pub mod Chains
+pub mod Enumerated
 pub mod Flights
 pub mod Kept
+pub mod Laws
+pub mod Opened
 pub mod Protocol
 pub mod Stores
 pub mod Ways

@@ -1,3 +1,4 @@
+pub mod Cases
 pub mod Cells
 pub mod Chains
 pub mod Laws
