@@ -8,8 +8,14 @@ use model::refusal::RefusalDisplay;
 use std::io;
 
 const BOARDS: u32 = 2;
+
 const CELL: u32 = 0;
-const FREE: Event = Event { board: 0, cell: 0, action: Action::Release };
+
+const FREE: Event = Event {
+    board: 0,
+    cell: 0,
+    action: Action::Release,
+};
 
 pub fn show(rt: &impl Print) -> io::Result<()> {
     println!(rt, "board 0 hands the cell over to board 1:")?;
@@ -48,7 +54,15 @@ fn twice(rt: &impl Print) -> io::Result<()> {
 }
 
 fn note(rt: &impl Print, judge: &mut Judge<'_>, board: u32, action: Action) -> io::Result<()> {
-    let answer = judge.note(BOARDS, &PairHome::new(1, 0), Event { board, cell: CELL, action });
+    let answer = judge.note(
+        BOARDS,
+        &PairHome::new(1, 0),
+        Event {
+            board,
+            cell: CELL,
+            action,
+        },
+    );
     print!(rt, "  board {board} ")?;
     match action {
         Action::Write(word) => print!(rt, "writes {word}")?,

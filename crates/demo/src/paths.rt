@@ -32,7 +32,13 @@ fn send<P: Path + Drop>(rt: &impl Print, mut path: P) -> io::Result<()> {
     land_all(rt, &mut path)
 }
 
-fn start<P: Path>(rt: &impl Print, path: &mut P, board: u32, cell: u32, word: u32) -> io::Result<()> {
+fn start<P: Path>(
+    rt: &impl Print,
+    path: &mut P,
+    board: u32,
+    cell: u32,
+    word: u32,
+) -> io::Result<()> {
     match path.start(Carry { board, cell, word }) {
         Ok(()) => println!(rt, "  board {board} sends {word} to cell {cell}"),
         Err(refusal) => println!(rt, "  board {board} may not send {word}: {refusal}"),

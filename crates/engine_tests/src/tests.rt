@@ -32,7 +32,10 @@ fn no<T>(refusal: Refusal) -> Result<T, Refusal> {
 }
 
 // A refused bench tells why, and refuses every step with 1.
-fn refused<H: Home + Drop, P: Path + Drop>(mut bench: Bench<H, P>, why: Refusal) -> Result<(), Fail> {
+fn refused<H: Home + Drop, P: Path + Drop>(
+    mut bench: Bench<H, P>,
+    why: Refusal,
+) -> Result<(), Fail> {
     check_eq(bench.refusal(), Some(why))?;
     check_eq(bench.read(0, 0), no(Refusal::NoSuchBoard))?;
     check_eq(bench.write(0, 0, 1), no(Refusal::NoSuchBoard))?;
@@ -53,18 +56,41 @@ fn opening_checks_sizes() -> Result<(), Fail> {
     refused(pairs(4_294_967_295, 1, 1), Refusal::SizeOutOfRange)?;
     let mut list = [0; 65];
     let wide = WordHome::new(&mut list);
-    refused(Bench::open(1, 1, wide, FirstCome::new()), Refusal::SizeOutOfRange)?;
+    refused(
+        Bench::open(1, 1, wide, FirstCome::new()),
+        Refusal::SizeOutOfRange,
+    )?;
     check_eq(pairs(8, 8, 64).refusal(), None)
 }
 
 #[test]
 fn opening_wants_an_empty_path() -> Result<(), Fail> {
     let mut path = FirstCome::new();
-    check_eq(path.start(Carry { board: 7, cell: 0, word: 1 }), Ok(()))?;
-    refused(Bench::open(1, 1, PairHome::new(1, 0), path), Refusal::PathNotEmpty)?;
+    check_eq(
+        path.start(Carry {
+            board: 7,
+            cell: 0,
+            word: 1,
+        }),
+        Ok(()),
+    )?;
+    refused(
+        Bench::open(1, 1, PairHome::new(1, 0), path),
+        Refusal::PathNotEmpty,
+    )?;
     let mut path = FirstCome::new();
-    check_eq(path.start(Carry { board: 7, cell: 0, word: 1 }), Ok(()))?;
-    refused(Bench::open(0, 1, PairHome::new(1, 0), path), Refusal::SizeOutOfRange)
+    check_eq(
+        path.start(Carry {
+            board: 7,
+            cell: 0,
+            word: 1,
+        }),
+        Ok(()),
+    )?;
+    refused(
+        Bench::open(0, 1, PairHome::new(1, 0), path),
+        Refusal::SizeOutOfRange,
+    )
 }
 
 #[test]
@@ -103,7 +129,14 @@ fn a_read_finds_the_own_write_in_flight() -> Result<(), Fail> {
     check_eq(bench.home().read(0), Ok(0))?;
     check_eq(bench.read(0, 0), Ok(1))?;
     check_eq(bench.read(1, 0), Ok(0))?;
-    check_eq(bench.land(), Ok(Some(Carry { board: 0, cell: 0, word: 1 })))?;
+    check_eq(
+        bench.land(),
+        Ok(Some(Carry {
+            board: 0,
+            cell: 0,
+            word: 1,
+        })),
+    )?;
     check_eq(bench.home().read(0), Ok(1))?;
     check_eq(bench.read(1, 0), Ok(0))?;
     check_eq(bench.eject(1, 0), Ok(()))?;
@@ -123,7 +156,14 @@ fn a_release_waits_for_the_memory() -> Result<(), Fail> {
     check_eq(bench.write_back(0, 0), Ok(()))?;
     check_eq(bench.write_back(0, 0), no(Refusal::NotDirty))?;
     check_eq(bench.release(0, 0), no(Refusal::UnsettledWrite))?;
-    check_eq(bench.land(), Ok(Some(Carry { board: 0, cell: 0, word: 1 })))?;
+    check_eq(
+        bench.land(),
+        Ok(Some(Carry {
+            board: 0,
+            cell: 0,
+            word: 1,
+        })),
+    )?;
     check_eq(bench.release(0, 0), Ok(()))?;
     check_eq(bench.acquire(1, 0), Ok(()))
 }
@@ -135,7 +175,14 @@ fn an_acquire_empties_what_is_clean() -> Result<(), Fail> {
     check_eq(bench.read(1, 0), Ok(0))?;
     check_eq(bench.write(0, 0, 1), Ok(()))?;
     check_eq(bench.eject(0, 0), Ok(()))?;
-    check_eq(bench.land(), Ok(Some(Carry { board: 0, cell: 0, word: 1 })))?;
+    check_eq(
+        bench.land(),
+        Ok(Some(Carry {
+            board: 0,
+            cell: 0,
+            word: 1,
+        })),
+    )?;
     check_eq(bench.read(1, 0), Ok(0))?;
     check_eq(bench.acquire(1, 0), Ok(()))?;
     check_eq(bench.write_back(1, 0), no(Refusal::NotCached))?;
@@ -147,7 +194,10 @@ fn an_acquire_empties_what_is_clean() -> Result<(), Fail> {
 }
 
 // As many write backs of one cell wait as a line is long; the next is refused, and its entry stays dirty.
-fn fills_a_line<H: Home + Drop, P: Path + Drop>(mut bench: Bench<H, P>, long: u32) -> Result<(), Fail> {
+fn fills_a_line<H: Home + Drop, P: Path + Drop>(
+    mut bench: Bench<H, P>,
+    long: u32,
+) -> Result<(), Fail> {
     for word in 1..9 {
         if word <= long {
             check_eq(bench.write(0, 0, word), Ok(()))?;
@@ -158,7 +208,14 @@ fn fills_a_line<H: Home + Drop, P: Path + Drop>(mut bench: Bench<H, P>, long: u3
     check_eq(bench.write_back(0, 0), no(Refusal::LineFull))?;
     check_eq(bench.eject(0, 0), no(Refusal::LineFull))?;
     check_eq(bench.read(0, 0), Ok(99))?;
-    check_eq(bench.land(), Ok(Some(Carry { board: 0, cell: 0, word: 1 })))?;
+    check_eq(
+        bench.land(),
+        Ok(Some(Carry {
+            board: 0,
+            cell: 0,
+            word: 1,
+        })),
+    )?;
     check_eq(bench.eject(0, 0), Ok(()))?;
     check_eq(bench.read(0, 0), Ok(99))
 }
@@ -170,5 +227,8 @@ fn lines_fill_over_every_home_and_path() -> Result<(), Fail> {
     fills_a_line(pairs(2, 1, 1), 8)?;
     fills_a_line(Bench::open(2, 1, PairHome::new(1, 0), Rota::new()), 4)?;
     fills_a_line(Bench::open(1, 1, pile, Rota::new()), 4)?;
-    fills_a_line(Bench::open(8, 8, WordHome::new(&mut list), FirstCome::new()), 8)
+    fills_a_line(
+        Bench::open(8, 8, WordHome::new(&mut list), FirstCome::new()),
+        8,
+    )
 }

@@ -29,6 +29,7 @@ sound-small n = sound-opened 2 1 (0 ∷ []) idle n (proper-idle n)
 pub bench-cases : BenchCases
 bench-cases =
     record {
+      numbers = refl;
       read-before-landing = surely (small 8) _ _ 64 (sound-small 8) refl;
       release = surely (small 8) _ _ 16 (sound-small 8) refl;
       acquire = surely (small 8) _ _ 1 (sound-small 8) refl;

@@ -10,6 +10,7 @@ use lib.Dec.{eqb, ltb}
 use Rattle.std.proofs.shelf.Elements.{all-push, kept-by-passes}
 use Rattle.std.proofs.shelf.Lists.{append-nil, length-push, length-set, getD-set-same, getD-set-other, set-past}
 use Rattle.std.proofs.shelf.Tests.{cases-eq, cases-lt, cases-bool, cond-true, cond-false, cond-both, and-parts, and-from, and-left, and-right, eq-eqb, ne-eqb, eqb-true, ltb-true, ltb-false}
+use Rattle.std.proofs.shelf.Ways.{tells}
 use Rattle.std.specs.shelf.Lists.{All, kept-by}
 use Rattle.std.specs.declared.option.Option.the-variants.{Some, None}
 use Rattle.std.specs.declared.result.Result.{Result}
@@ -21,6 +22,7 @@ use Rattle.path.specs.Runs.{startReply, end, then}
 use Rattle.path.specs.declared.order.Order.the-variants.{Start, Land}
 use Rattle.path.specs.declared.order.Reply.the-variants.{Started, Landed}
 use Rattle.path.proofs.Lanes.{in-order}
+use Rattle.state.specs.Cells.{Limit, boards, cells, length-of-line}
 
 -- which lane a carry is of
 
@@ -95,25 +97,23 @@ proper-set n ls b l p own short =
     (λ (h : length ls ≤ b). subst (Proper n) (sym (set-past ls b l h)) p)
     (cases-lt b (length ls))
 
--- what a start that is accepted shows
+-- what the answer to a start shows
 pub record Startable (n : ℕ) (ls : List (List Carry)) (x : Carry) : Type 0 where
   pub board : x .board < 8
   pub cell : x .cell < 64
   pub room : length (line ls (x .board)) < n
 
 pub startable : (n : ℕ) (ls : List (List Carry)) (x : Carry) (u : Unit {0}) → startAt n ls x ≡ Ok u → Startable n ls x
-startable n ls x u e =
-    tested (ltb 7 (x .board)) (ltb 63 (x .cell)) (ltb (length (line ls (x .board))) n) refl refl refl e
+startable n ls x u e = grind (arith, tells)
+
+pub start-limit : (n : ℕ) (ls : List (List Carry)) (x : Carry) (r : Refusal) → startAt n ls x ≡ Err r → Limit r
+start-limit n ls x r e = by (ltb 7 (x .board)) (ltb 63 (x .cell)) (ltb (length (line ls (x .board))) n) e
   where
-    tested : (p q r : Bool) → ltb 7 (x .board) ≡ p → ltb 63 (x .cell) ≡ q → ltb (length (line ls (x .board))) n ≡ r
-        → cond p (Err Refusal.NoSuchBoard) (cond q (Err Refusal.NoSuchCell) (cond r (Ok tt) (Err Refusal.LineFull))) ≡ Ok u → Startable n ls x
-    tested false false true p q r s = record { board = omega (arith, ltb-false 7 (x .board) p); cell = omega (arith, ltb-false 63 (x .cell) q); room = ltb-true (length (line ls (x .board))) n r }
-    tested false false false p q r s = absurd (err s)
-      where
-        err : Err Refusal.LineFull ≡ Ok u → ⊥
-        err h = let z : _≡_ {A = ℕ} 0 1 = cc in omega arith
-    tested false true r′ p q r s = absurd (let z : _≡_ {A = ℕ} 0 1 = cc in omega arith)
-    tested true q′ r′ p q r s = absurd (let z : _≡_ {A = ℕ} 0 1 = cc in omega arith)
+    by : (p q l : Bool) → _≡_ {A = Result (Unit {0}) Refusal} (cond p (Err Refusal.NoSuchBoard) (cond q (Err Refusal.NoSuchCell) (cond l (Ok tt) (Err Refusal.LineFull)))) (Err r) → Limit r
+    by true q l h = subst Limit (cc) boards
+    by false true l h = subst Limit (cc) cells
+    by false false false h = subst Limit (cc) length-of-line
+    by false false true h = absurd (let z : _≡_ {A = ℕ} 0 1 = cc in omega arith)
 
 pub proper-started : (n : ℕ) (ls : List (List Carry)) (x : Carry) (u : Unit {0}) → startAt n ls x ≡ Ok u → Proper n ls → Proper n (started n ls x)
 proper-started n ls x u e p =

@@ -68,7 +68,7 @@ sound-landed : (s : State) (x : Carry) → Sound s → Sound (landed s x)
 sound-landed s x k = record { boards = k .boards; entries = k .entries; caches = k .caches; places = k .places; owners = k .owners; lines = proper-unloaded (s .long) (s .lines) x (k .lines) }
 
 sound-way : {s t : State} {call : Step} {a : Answer} → Way s call a t → Sound s → Sound t
-sound-way (refusing r) k = k
+sound-way (refusing r barred) k = k
 sound-way {s = s} (reading {b = b} {c = c} on guard puts) k = sound-puts (board-in s b c on k) puts k
 sound-way {s = s} (writing {b = b} {c = c} on puts) k = sound-puts (board-in s b c on k) puts k
 sound-way {s = s} (acquiring {b = b} {c = c} {t = t} on guard puts) k = sound-owner t c _ (sound-puts (board-in s b c on k) puts k)
@@ -100,7 +100,7 @@ length-written : (ws : List ℕ) (c w : ℕ) → length (written ws c w) ≡ len
 length-written ws c w = cond-both (ltb c (length ws)) (set ws c w) ws (λ l. length l ≡ length ws) (λ _. length-set ws c w) (λ _. refl)
 
 sizes-way : {s t : State} {call : Step} {a : Answer} → Way s call a t → SameSizes s t
-sizes-way {s = s} (refusing r) = same-sizes s
+sizes-way {s = s} (refusing r barred) = same-sizes s
 sizes-way (reading on guard puts) = sizes-puts puts
 sizes-way (writing on puts) = sizes-puts puts
 sizes-way (acquiring {c = c} {t = t} on guard puts) = sizes-owner t c _ (sizes-puts puts)

@@ -5,7 +5,7 @@ use Rattle.state.proofs.Chains.{lists-answered}
 use Rattle.state.proofs.Kept.{sound-kept, sizes-kept}
 use Rattle.state.proofs.Opened.{sound-opened}
 use Rattle.state.proofs.Protocol.{follows}
-use Rattle.state.proofs.Ways.{refused-keeps, no-boards-refuse}
+use Rattle.state.proofs.Ways.{refused-keeps, refused-rightly, no-boards-refuse}
 
 pub step-laws : StepLaws
 step-laws =
@@ -16,6 +16,7 @@ step-laws =
       protocol = follows;
       answered = answered;
       lists-answered = lists-answered;
-      refused = refused-keeps;
+      refused-keeps = refused-keeps;
+      refused-rightly = refused-rightly;
       no-boards = no-boards-refuse;
     }

@@ -176,7 +176,7 @@ refused-rests c (Step.Eject b d) r = no-move (eqb d c)
 refused-rests c Step.Land r = refl
 
 follows-way : {s t : State} {call : Step} {a : Answer} → Way s call a t → Sound s → Follows s call a t
-follows-way {s = s} {call = call} (refusing r) k = λ c h. subst (λ m. Moves m (project c s) (project c s)) (sym (refused-rests c call r)) (record { guard = tt; effect = same (project c s) })
+follows-way {s = s} {call = call} (refusing r barred) k = λ c h. subst (λ m. Moves m (project c s) (project c s)) (sym (refused-rests c call r)) (record { guard = tt; effect = same (project c s) })
 follows-way {s = s} {t = t} (reading {b = b} {c = c} {w = w} on guard puts) k =
     let turned = turned-puts (board-in s b c on k) puts k in
     moves-each s t c (reads b w) (λ h. record { guard = guard; effect = turned .here h }) (turned .there)

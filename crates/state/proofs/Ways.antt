@@ -2,11 +2,12 @@
 -- with the move's guard, and what it does to the state is one of a few things.
 use mathlib.Core.Path.{_≡_, refl, sym, ap, subst, _∙_}
 use mathlib.Core.Bool.{Bool, true, false, cond, _||_}
+use mathlib.Core.Logic.{inl, inr, ⊎-elim}
 use mathlib.Core.List.{List, [], _∷_}
 use Prim.Native.Nat.{ℕ, _<_}
 use native.Mathlib.Omega.{arith}
 use lib.Dec.{eqb, ltb}
-use Rattle.std.proofs.shelf.Tests.{both-ways, cond-both, cond-false, or-parts, eqb-true, ltb-true, le-ltb}
+use Rattle.std.proofs.shelf.Tests.{false≢true, both-ways, cond-both, cond-false, or-parts, or-cases, eqb-true, eq-eqb, ltb-true, le-ltb}
 use Rattle.std.specs.Iters.{lastOr}
 use Rattle.std.specs.Options.{isSome}
 use Rattle.std.specs.declared.option.Option.{Option}
@@ -23,13 +24,13 @@ use Rattle.cache.specs.declared.place.Place.{Place}
 use Rattle.cache.specs.Places.{entryIn, placeFor, replaceIn, takenIn, storeIn}
 use Rattle.protocol.specs.Machine.{Guard, reads, acquires, releases, writes-back, ejects, readWord, afterRead, afterAcquire, cleaned, sent}
 use Rattle.protocol.specs.Machine as machine
-use Rattle.state.specs.Cells.{wordsOf, project}
-use Rattle.state.specs.Laws.{RefusedKeeps, NoBoardsRefuse}
+use Rattle.state.specs.Cells.{wordsOf, project, Barred, boards, cells, entries}
+use Rattle.state.specs.Laws.{RefusedKeeps, RefusedRightly, NoBoardsRefuse}
 use Rattle.state.specs.Opening.{quiet}
 use Rattle.state.specs.States.{State, cellsOf, cacheOf, ownerOf, wordOf, withCache, withOwner, withLines, withEntry}
 use Rattle.state.specs.Steps.{Choice, Outcome, refuse, done, checked, kept, newEntry, carried, fetched, read, write, acquireFree, acquire, isDirty, unsettled, isOwner, release, carryOf, send, writeBack, eject, landed, land, step, Takes}
 use Rattle.state.specs.Steps as bench
-use Rattle.state.proofs.Flights.{heads-own}
+use Rattle.state.proofs.Flights.{heads-own, start-limit}
 use Rattle.state.proofs.Stores.{replaces}
 
 -- the bench has that board and that cell
@@ -48,7 +49,7 @@ pub data Sends (s : State) (b c : ℕ) (e : Entry) : List ℕ → State → Type
   carrying : {t : State} (w : ℕ) (u : Unit {0}) → startAt (s .long) (s .lines) (carryOf b c w) ≡ Ok u → Puts s b c e t → Sends s b c e (w ∷ []) (withLines t (started (s .long) (s .lines) (carryOf b c w)))
 
 pub data Way (s : State) : Step → Answer → State → Type 0 where
-  refusing : {call : Step} (r : Refusal) → Way s call (Answer.Refused r) s
+  refusing : {call : Step} (r : Refusal) → Barred s call r → Way s call (Answer.Refused r) s
   reading : {b c w : ℕ} {t : State} → On s b c → Guard (reads b w) (project c s) → Puts s b c (afterRead (project c s .entry b) w) t → Way s (Step.Read b c) (Answer.Word w) t
   writing : {b c w : ℕ} {t : State} → On s b c → Puts s b c (Entry.Dirty w) t → Way s (Step.Write b c w) Answer.Done t
   acquiring : {b c : ℕ} {t : State} → On s b c → Guard (acquires b) (project c s) → Puts s b c (afterAcquire (project c s .entry b)) t → Way s (Step.Acquire b c) Answer.Done (withOwner t c (Some b))
@@ -82,6 +83,21 @@ nothing-sent Entry.Invalid h = refl
 nothing-sent (Entry.Clean w) h = refl
 nothing-sent (Entry.Dirty w) h = absurd (both-ways true h refl)
 
+owned : (o : ℕ) → Some o ≡ None → ⊥
+owned o e = let z : _≡_ {A = ℕ} 0 1 = cc in omega arith
+
+not-owner : {b : ℕ} (o : Option ℕ) → isOwner o b ≡ false → o ≡ Some b → ⊥
+not-owner {b = b} o other e = both-ways (isOwner o b) other (ap (λ x. isOwner x b) e ∙ eq-eqb b b refl)
+
+something-sent : (e : Entry) → isDirty e ≡ true → sent e ≡ [] → ⊥
+something-sent Entry.Invalid h = absurd (both-ways false refl h)
+something-sent (Entry.Clean w) h = absurd (both-ways false refl h)
+something-sent (Entry.Dirty w) h = λ e. let z : _≡_ {A = ℕ} 0 1 = cc in omega arith
+
+something-newest : (xs : List Carry) → isSome (newest xs) ≡ true → wordsOf xs ≡ [] → ⊥
+something-newest [] h = absurd (both-ways false refl h)
+something-newest (x ∷ xs) h = λ e. let z : _≡_ {A = ℕ} 0 1 = cc in omega arith
+
 -- the word that a read fetches is the newest in flight, or else the memory's
 newest-word : (xs : List Carry) (o : Option Carry) (m : ℕ) → carried (lastOr o xs) m ≡ machine.newest (wordsOf xs) (carried o m)
 newest-word [] o m = refl
@@ -92,6 +108,9 @@ clean-valid w p q = let z : _≡_ {A = ℕ} 0 1 = cc in omega arith
 
 dirty-valid : {e : Entry} (w : ℕ) → e ≡ Entry.Dirty w → e ≡ Entry.Invalid → ⊥
 dirty-valid w p q = let z : _≡_ {A = ℕ} 0 1 = cc in omega arith
+
+clean-dirty : {e : Entry} (w v : ℕ) → e ≡ Entry.Clean w → e ≡ Entry.Dirty v → ⊥
+clean-dirty w v p q = let z : _≡_ {A = ℕ} 0 1 = cc in omega arith
 
 -- a step of board b on cell c
 module _ (s : State) (b c : ℕ) where
@@ -104,14 +123,14 @@ module _ (s : State) (b c : ℕ) where
       (λ p.
       cond-both (ltb c (cellsOf s)) o (refuse Refusal.NoSuchCell s) (Meets (Way s call))
       (λ q. go (record { board = ltb-true b (s .boards) p; cell = ltb-true c (cellsOf s) q }))
-      (λ _. refusing Refusal.NoSuchCell))
-      (λ _. refusing Refusal.NoSuchBoard)
+      (λ _. refusing Refusal.NoSuchCell (inl cells)))
+      (λ _. refusing Refusal.NoSuchBoard (inl boards))
 
   new-way : (k : Choice) (call : Step) (a : Answer) (e : Entry) → ((t : State) → Puts s b c e t → Way s call a t) → Meets (Way s call) (newEntry k s b c a e)
   new-way k call a e go =
       cond-both (ltb (takenIn (cacheOf s b)) (s .entries)) (kept s b a (storeIn (k .place) (cacheOf s b) c e)) (refuse Refusal.CacheFull s) (Meets (Way s call))
       (λ _. by (storeIn (k .place) (cacheOf s b) c e) refl)
-      (λ _. refusing Refusal.CacheFull)
+      (λ _. refusing Refusal.CacheFull (inl entries))
     where
       by : (o : Option (List Place)) → storeIn (k .place) (cacheOf s b) c e ≡ o → Meets (Way s call) (kept s b a o)
       by (Some ps) p = go (withCache s b ps) (stores (k .place) ps p)
@@ -127,7 +146,7 @@ module _ (s : State) (b c : ℕ) where
       by (Ok u) p =
           let after = withLines (withEntry s b c e) (started (s .long) (s .lines) (carryOf b c w)) in
           go after (subst (λ x. Sends s b c e (sent x) after) (sym dirty) (carrying w u p (replaced e (dirty-valid w dirty))))
-      by (Err r) p = refusing r
+      by (Err r) p = refusing r (inl (start-limit (s .long) (s .lines) (carryOf b c w) r p))
 
   read-way : (k : Choice) → On s b c → (e : Entry) → entry ≡ e → Meets (Way s (Step.Read b c)) (read k s b c e)
   read-way k on Entry.Invalid p =
@@ -153,8 +172,8 @@ module _ (s : State) (b c : ℕ) where
   acquire-way : On s b c → (o : Option ℕ) → ownerOf s c ≡ o → Meets (Way s (Step.Acquire b c)) (acquire s b c o)
   acquire-way on (Some o) p =
       cond-both (eqb o b) (refuse Refusal.OwnedAlready s) (refuse Refusal.OwnedByAnother s) (Meets (Way s (Step.Acquire b c)))
-      (λ _. refusing Refusal.OwnedAlready)
-      (λ _. refusing Refusal.OwnedByAnother)
+      (λ _. refusing Refusal.OwnedAlready (inr (λ free. owned o (sym p ∙ free))))
+      (λ _. refusing Refusal.OwnedByAnother (inr (λ free. owned o (sym p ∙ free))))
   acquire-way on None p = free-way on p entry refl
 
   release-way : On s b c → Meets (Way s (Step.Release b c)) (release s b c)
@@ -162,21 +181,21 @@ module _ (s : State) (b c : ℕ) where
       cond-both (isOwner (ownerOf s c) b) (cond (unsettled s b c) (refuse Refusal.UnsettledWrite s) (done (withOwner s c None))) (refuse Refusal.NotOwner s) (Meets (Way s (Step.Release b c)))
       (λ own.
       cond-both (unsettled s b c) (refuse Refusal.UnsettledWrite s) (done (withOwner s c None)) (Meets (Way s (Step.Release b c)))
-      (λ _. refusing Refusal.UnsettledWrite)
+      (λ open′. refusing Refusal.UnsettledWrite (inr (λ guard. ⊎-elim (λ d. something-sent entry d (guard .1)) (λ f. something-newest (lane (s .lines) b c) f (guard .2)) (or-cases (isDirty entry) (isSome (newest (lane (s .lines) b c))) open′))))
       (λ settled.
       let parts = or-parts (isDirty entry) (isSome (newest (lane (s .lines) b c))) settled in
       releasing on (owner-is (ownerOf s c) b own, nothing-sent entry (parts .0), ap wordsOf (none-newest (lane (s .lines) b c) (parts .1)))))
-      (λ _. refusing Refusal.NotOwner)
+      (λ other. refusing Refusal.NotOwner (inr (λ guard. not-owner (ownerOf s c) other (guard .0))))
 
   back-way : On s b c → (e : Entry) → entry ≡ e → Meets (Way s (Step.WriteBack b c)) (writeBack s b c e)
-  back-way on Entry.Invalid p = refusing Refusal.NotCached
-  back-way on (Entry.Clean w) p = refusing Refusal.NotDirty
+  back-way on Entry.Invalid p = refusing Refusal.NotCached (inr (λ guard. dirty-valid (guard .0) (guard .1) p))
+  back-way on (Entry.Clean w) p = refusing Refusal.NotDirty (inr (λ guard. clean-dirty w (guard .0) p (guard .1)))
   back-way on (Entry.Dirty w) p =
       send-way (Step.WriteBack b c) w (Entry.Clean w) p
       (λ t sends. writing-back on (w, p) (subst (λ x. Sends s b c (cleaned x) (sent entry) t) (sym p) sends))
 
   eject-way : On s b c → (e : Entry) → entry ≡ e → Meets (Way s (Step.Eject b c)) (eject s b c e)
-  eject-way on Entry.Invalid p = refusing Refusal.NotCached
+  eject-way on Entry.Invalid p = refusing Refusal.NotCached (inr (λ guard. guard p))
   eject-way on (Entry.Clean w) p =
       ejecting on (clean-valid w p) (subst (λ x. Sends s b c Entry.Invalid (sent x) (withEntry s b c Entry.Invalid)) (sym p) (quietly (replaced Entry.Invalid (clean-valid w p))))
   eject-way on (Entry.Dirty w) p = send-way (Step.Eject b c) w Entry.Invalid p (λ t sends. ejecting on (dirty-valid w p) sends)
@@ -195,26 +214,36 @@ ways k s (Step.Eject b c) = checked-way s b c (Step.Eject b c) (eject s b c (ent
 ways k s Step.Land =
     cond-both (ltb 0 (s .boards)) (land s (oldest (lane (s .lines) (k .board) (k .cell)))) (refuse Refusal.NoSuchBoard s) (Meets (Way s Step.Land))
     (λ _. land-way s (k .board) (k .cell) (oldest (lane (s .lines) (k .board) (k .cell))) refl)
-    (λ _. refusing Refusal.NoSuchBoard)
+    (λ _. refusing Refusal.NoSuchBoard (inl boards))
 
 pub way : (s t : State) (call : Step) (a : Answer) → Takes s call a t → Way s call a t
 way s t call a takes = subst (Meets (Way s call)) (takes .1) (ways (takes .0) s call)
 
--- a refused step changes nothing
+-- a refused step changes nothing, and is refused rightly
 
-refused-way : {s t : State} {call : Step} {a : Answer} (r : Refusal) → Way s call a t → a ≡ Answer.Refused r → t ≡ s
-refused-way r (refusing q) e = refl
-refused-way r (reading on guard puts) e = cc
-refused-way r (writing on puts) e = cc
-refused-way r (acquiring on guard puts) e = cc
-refused-way r (releasing on guard) e = cc
-refused-way r (writing-back on guard sends) e = cc
-refused-way r (ejecting on guard sends) e = cc
-refused-way r (landing first) e = cc
-refused-way r idling e = cc
+abbrev isRefusal : Answer → Bool
+isRefusal (Answer.Word w) = false
+isRefusal (Answer.Landed x) = false
+isRefusal Answer.NothingWaits = false
+isRefusal Answer.Done = false
+isRefusal (Answer.Refused r) = true
+
+refused-way : {s t : State} {call : Step} {a : Answer} (r : Refusal) → Way s call a t → a ≡ Answer.Refused r → (t ≡ s) × Barred s call r
+refused-way {s = s} {call = call} r (refusing q barred) e = let is : q ≡ r = cc in (refl, subst (Barred s call) is barred)
+refused-way r (reading on guard puts) e = absurd (false≢true (ap isRefusal e))
+refused-way r (writing on puts) e = absurd (false≢true (ap isRefusal e))
+refused-way r (acquiring on guard puts) e = absurd (false≢true (ap isRefusal e))
+refused-way r (releasing on guard) e = absurd (false≢true (ap isRefusal e))
+refused-way r (writing-back on guard sends) e = absurd (false≢true (ap isRefusal e))
+refused-way r (ejecting on guard sends) e = absurd (false≢true (ap isRefusal e))
+refused-way r (landing first) e = absurd (false≢true (ap isRefusal e))
+refused-way r idling e = absurd (false≢true (ap isRefusal e))
 
 pub refused-keeps : RefusedKeeps
-refused-keeps s t call r takes = refused-way r (way s t call (Answer.Refused r) takes) refl
+refused-keeps s t call r takes = refused-way r (way s t call (Answer.Refused r) takes) refl .0
+
+pub refused-rightly : RefusedRightly
+refused-rightly s t call r takes = refused-way r (way s t call (Answer.Refused r) takes) refl .1
 
 -- a bench without boards refuses every step
 

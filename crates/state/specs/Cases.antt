@@ -1,9 +1,10 @@
 -- Worked cases of a bench: two boards, one cell, one entry, the starting word 0 and lines of the given length.
 use mathlib.Core.Path.{_≡_}
-use mathlib.Core.List.{List, [], _∷_, _++_}
+use mathlib.Core.List.{List, [], _∷_, _++_, map}
 use Prim.Native.Nat.{ℕ, zero, suc}
 use lib.ListN.{replicate}
 use Rattle.std.specs.declared.option.Option.the-variants.{Some, None}
+use Rattle.model.specs.Refusals.{numberOf}
 use Rattle.model.specs.declared.answer.Answer.{Answer}
 use Rattle.model.specs.declared.carry.Carry.{Carry}
 use Rattle.model.specs.declared.refusal.Refusal.{Refusal}
@@ -31,6 +32,7 @@ writeBacks zero = []
 writeBacks (suc n) = Step.Write 0 0 n ∷ Step.WriteBack 0 0 ∷ writeBacks n
 
 pub record BenchCases : Type 0 where
+  pub numbers : map numberOf (Refusal.UnsettledWrite ∷ Refusal.OwnedAlready ∷ Refusal.OwnedByAnother ∷ Refusal.LineFull ∷ Refusal.SizeOutOfRange ∷ []) ≡ 17 ∷ 12 ∷ 11 ∷ 18 ∷ 3 ∷ []
   -- a board that ejects its write reads it back before it has landed
   pub read-before-landing : Surely (small 8)
       (Step.Write 0 0 1 ∷ Step.Eject 0 0 ∷ Step.Read 0 0 ∷ [])

@@ -8,7 +8,7 @@ use Rattle.model.specs.declared.carry.Carry.{Carry}
 use Rattle.model.specs.declared.refusal.Refusal.{Refusal}
 use Rattle.model.specs.declared.step.Step.{Step}
 use Rattle.path.specs.Lines.{Proper}
-use Rattle.state.specs.Cells.{Follows}
+use Rattle.state.specs.Cells.{Follows, Barred}
 use Rattle.state.specs.Chains.{Chain}
 use Rattle.state.specs.Opening.{opened}
 use Rattle.state.specs.Sound.{Sound}
@@ -49,6 +49,10 @@ ListsAnswered = (s : State) (calls : List Step) → Sound s → (answers : List 
 abbrev pub RefusedKeeps : Type 0
 RefusedKeeps = (s t : State) (call : Step) (r : Refusal) → Takes s call (Answer.Refused r) t → t ≡ s
 
+-- and it is refused only by a limit of the bench, or where the protocol does not allow the move
+abbrev pub RefusedRightly : Type 0
+RefusedRightly = (s t : State) (call : Step) (r : Refusal) → Takes s call (Answer.Refused r) t → Barred s call r
+
 -- a bench without boards, as a refused one is, refuses every step
 abbrev pub NoBoardsRefuse : Type 0
 NoBoardsRefuse = (s t : State) (call : Step) (a : Answer) → Takes s call a t → s .boards ≡ 0 → a ≡ Answer.Refused Refusal.NoSuchBoard
@@ -60,5 +64,6 @@ pub record StepLaws : Type 0 where
   pub protocol : FollowsProtocol
   pub answered : AlwaysAnswered
   pub lists-answered : ListsAnswered
-  pub refused : RefusedKeeps
+  pub refused-keeps : RefusedKeeps
+  pub refused-rightly : RefusedRightly
   pub no-boards : NoBoardsRefuse

@@ -1,5 +1,7 @@
 ghost use mathlib.Core.Path.{_≡_};
 ghost use Rattle.model.specs.declared.step.Step.the-variants.{Read, Write, Acquire, Release, WriteBack, Eject, Land};
+ghost use Rattle.state.specs.Cells.{Follows};
+ghost use Rattle.state.specs.Sound.{Sound};
 ghost use Rattle.state.specs.Steps.{Takes};
 ghost use Rattle.engine.specs.Benches.{stateOf, doneAnswer, wordAnswer, landAnswer};
 use super::Bench;
@@ -82,9 +84,12 @@ impl<H: Home, P: Path> Bench<H, P> {
         }
     }
 
-    // Any of the seven steps.
+    // Any of the seven steps. At every cell it is the protocol's move of that name, or none; whatever the bench is, it is
+    // sound before and after.
     pub fn perform(&mut self, step: Step) -> Answer
-        ensures { λ r. ⌜ Takes (stateOf (H·Source .words) (P·Path .lines) (P·Path .long) (now (self .entry))) step r (stateOf (H·Source .words) (P·Path .lines) (P·Path .long) (now (self .exit))) ⌝ }
+        ensures step { λ r. ⌜ Takes (stateOf (H·Source .words) (P·Path .lines) (P·Path .long) (now (self .entry))) step r (stateOf (H·Source .words) (P·Path .lines) (P·Path .long) (now (self .exit))) ⌝ }
+        ensures protocol { λ r. ⌜ Follows (stateOf (H·Source .words) (P·Path .lines) (P·Path .long) (now (self .entry))) step r (stateOf (H·Source .words) (P·Path .lines) (P·Path .long) (now (self .exit))) ⌝ }
+        ensures sound { λ _. ⌜ Sound (stateOf (H·Source .words) (P·Path .lines) (P·Path .long) (now (self .entry))) × Sound (stateOf (H·Source .words) (P·Path .lines) (P·Path .long) (now (self .exit))) ⌝ }
     {
         match step {
             Step::Read { board, cell } => word(self.read(board, cell)),
