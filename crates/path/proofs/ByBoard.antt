@@ -16,7 +16,7 @@ use Rattle.std.proofs.shelf.Counted.{length-map-counting, getD-map-counting}
 use Rattle.std.proofs.shelf.Tests.{cases-eq, cases-lt, cond-true, cond-false, cond-both, cases-bool, and-parts, and-from, and-left, eq-eqb, ne-eqb, eqb-true, lt-ltb, ltb-true}
 use Rattle.model.specs.declared.carry.Carry.{Carry}
 use Rattle.path.specs.Lines.{line, ofLane, lane, oldest, without, Landed, Proper}
-use Rattle.path.specs.Tables.{lineOf, linesOf, located, Short, blank, FirstOfBoard, FirstAt}
+use Rattle.path.specs.Tables.{lineOf, linesOf, located, Short, blank, withoutFirst, FirstOfBoard, FirstAt}
 
 pub lines-length : (xs : List Carry) → length (linesOf xs) ≡ 8
 unfolding linesOf
@@ -274,7 +274,35 @@ proper n xs l s =
 pub lane-of : (xs : List Carry) (b c : ℕ) → b < 8 → lane (linesOf xs) b c ≡ kept-by (ofLane b c) xs
 lane-of xs b c h = ap (kept-by (ofLane b c)) (line-of xs b h) ∙ lane-line b c xs
 
+-- without the first of board b, where none is of board b and where the one at place i is the first
+none-without : (b : ℕ) (xs : List Carry) → lineOf b xs ≡ [] → xs ≡ withoutFirst b xs
+none-without b [] e = refl
+none-without b (x ∷ xs) e =
+    ⊎-elim
+    (λ (t : eqb (x .board) b ≡ true).
+    let some = sym (cond-true (eqb (x .board) b) (x ∷ lineOf b xs) (lineOf b xs) t) ∙ e in
+    let z : _≡_ {A = ℕ} 0 1 = cc in
+    absurd (omega arith))
+    (λ (f : eqb (x .board) b ≡ false).
+    ap (λ l. x ∷ l) (none-without b xs (sym (cond-false (eqb (x .board) b) (x ∷ lineOf b xs) (lineOf b xs) f) ∙ e))
+    ∙ sym (cond-false (eqb (x .board) b) xs (x ∷ withoutFirst b xs) f))
+    (cases-bool (eqb (x .board) b))
+
+pub first-without : (b : ℕ) (xs : List Carry) (i : ℕ) → i < length xs → getD xs i blank .board ≡ b → lineOf b (take i xs) ≡ [] → removed xs i ≡ withoutFirst b xs
+first-without b [] i h is none = absurd (omega arith)
+first-without b (x ∷ xs) zero h is none = sym (cond-true (eqb (x .board) b) xs (x ∷ withoutFirst b xs) (eq-eqb (x .board) b is))
+first-without b (x ∷ xs) (suc i) h is none =
+    ⊎-elim
+    (λ (t : eqb (x .board) b ≡ true).
+    let some = sym (cond-true (eqb (x .board) b) (x ∷ lineOf b (take i xs)) (lineOf b (take i xs)) t) ∙ none in
+    let z : _≡_ {A = ℕ} 0 1 = cc in
+    absurd (omega arith))
+    (λ (f : eqb (x .board) b ≡ false).
+    ap (λ l. x ∷ l) (first-without b xs i (omega arith) is (sym (cond-false (eqb (x .board) b) (x ∷ lineOf b (take i xs)) (lineOf b (take i xs)) f) ∙ none))
+    ∙ sym (cond-false (eqb (x .board) b) xs (x ∷ withoutFirst b xs) f))
+    (cases-bool (eqb (x .board) b))
+
 pub none-first : (xs : List Carry) (b : ℕ) → lineOf b xs ≡ [] → FirstAt b xs None
 none-first xs b none =
     let empty : line (linesOf xs) b ≡ [] = ⊎-elim (λ (h : b < 8). line-of xs b h ∙ none) (λ (h : 8 ≤ b). line-past xs b h) (cases-lt b 8) in
-    (sym (ap oldest empty), sym (ap (set (linesOf xs) b) (ap (drop 1) empty ∙ sym empty) ∙ set-getD (linesOf xs) b []))
+    (sym (ap oldest empty), sym (ap (set (linesOf xs) b) (ap (drop 1) empty ∙ sym empty) ∙ set-getD (linesOf xs) b []), none-without b xs none)

@@ -9,7 +9,7 @@ ghost use Rattle.std.specs.shelf.Lists.{removed};
 ghost use Rattle.std.specs.shelf.Maps.{nth};
 ghost use Rattle.path.specs.Held.{held, linesIn};
 ghost use Rattle.path.specs.Lines.{line, lane, oldest, newest, joined, startAt, ifStarted, started, newestAt, countAt, Landed};
-ghost use Rattle.path.specs.Tables.{lineOf, Short, blank, FirstOfBoard, FirstAt};
+ghost use Rattle.path.specs.Tables.{lineOf, Short, blank, withoutFirst, FirstOfBoard, FirstAt};
 use super::PLACES;
 use super::Table;
 use crate::path::BOARDS;
@@ -196,6 +196,7 @@ impl Table {
     pub fn land_of(&mut self, board: u32) -> Option<Carry>
         ensures answer { λ r. ⌜ r ≡ oldest (line (linesIn (now (self .entry))) board) ⌝ }
         ensures after { λ _. ⌜ linesIn (now (self .exit)) ≡ set (linesIn (now (self .entry))) board (drop 1 (line (linesIn (now (self .entry))) board)) ⌝ }
+        ensures rest { λ _. ⌜ held (now (self .exit)) ≡ withoutFirst board (held (now (self .entry))) ⌝ }
         ensures landed { λ r. ⌜ (isSome r ≡ true → Landed (linesIn (now (self .entry))) r (linesIn (now (self .exit)))) ⌝ }
         ensures short { λ _. ⌜ ((n : ℕ) → Short n (held (now (self .entry))) → Short n (held (now (self .exit)))) ⌝ }
     {

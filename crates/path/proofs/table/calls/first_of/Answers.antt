@@ -6,7 +6,7 @@ use Rattle.std.proofs.shelf.Elements.{kept-by-more}
 use Rattle.std.proofs.shelf.Lists.{take-all}
 use Rattle.std.proofs.shelf.Tests.{cond-false, ne-eqb}
 use Rattle.path.specs.Tables.{lineOf, blank}
-use Rattle.path.proofs.ByBoard.{none-first}
+use Rattle.path.proofs.ByBoard.{none-first, first-without}
 use Rattle.path.proofs.table.calls.first_of.Needs as need
 
 pub loop-i-again : need.loop-i-again
@@ -20,11 +20,14 @@ loop-i-again c =
     ∙ ap (λ l. l ++ []) (c .loop-i .inv)
 
 pub returns-then-x-board : need.returns-then-x-board
-returns-then-x-board c = (
-  c .loop-i-test .taken,
-  c .if-x-board .taken,
-  ap (λ b. lineOf b (take (c .loop-i .i) (c .args .carries .now))) (c .if-x-board .taken) ∙ c .loop-i .inv,
-)
+returns-then-x-board c =
+    let xs = c .args .carries .now in
+    let i = c .loop-i .i in (
+      c .loop-i-test .taken,
+      c .if-x-board .taken,
+      ap (λ b. lineOf b (take i xs)) (c .if-x-board .taken) ∙ c .loop-i .inv,
+      first-without (c .args .board) xs i (c .loop-i-test .taken) (c .if-x-board .taken) (c .loop-i .inv),
+    )
 
 pub returns : need.returns
 returns c =
