@@ -1,7 +1,7 @@
 -- The worked examples, computed by the tests, which decide.
-use mathlib.Core.Path.{_≡_, refl, sym, _∙_, ap, subst}
+use mathlib.Core.Path.{_≡_, refl, sym, ap}
 use mathlib.Core.List.{List, [], _∷_}
-use mathlib.Core.Bool.{Bool, true, false, cond, _&&_, _||_}
+use mathlib.Core.Bool.{Bool, true, false, _&&_, _||_}
 use mathlib.Core.Logic.{_⊎_, inl, inr}
 use Prim.Native.Nat.{ℕ, zero, suc, _<_}
 use native.Mathlib.Omega.{arith}
@@ -9,12 +9,12 @@ use lib.Dec.{eqb, ltb}
 use Rattle.std.specs.declared.option.Option.{Option}
 use Rattle.std.specs.declared.option.Option.the-variants.{Some, None}
 use Rattle.std.specs.declared.result.Result.the-variants.{Ok}
-use Rattle.std.proofs.shelf.Tests.{true≢false, lt-ltb, eqb-true, and-parts, and-from, or-cases, cases-eq}
+use Rattle.std.proofs.shelf.Tests.{true≢false, lt-ltb, eqb-true, and-parts, and-from, or-cases}
 use Rattle.std.proofs.shelf.Ways.{decides-below-and}
 use Rattle.model.specs.declared.event.Action.{Action}
 use Rattle.model.specs.declared.event.Event.{Event}
-use Rattle.order.specs.Order.{more, Legal, Disciplined}
-use Rattle.order.specs.Test.{legalUnder, legal, onBoards, ownerOf, LegalBy}
+use Rattle.order.specs.Order.{more, Disciplined}
+use Rattle.order.specs.Test.{legalUnder, legal, onBoards, ownerOf}
 use Rattle.order.proofs.Legals.{legal-found, legal-none}
 use Rattle.judge.specs.Examples.{does, handOver, HandedOver, Examples}
 use Rattle.judge.specs.Judging.{allowed}

@@ -1,21 +1,20 @@
 -- What a board knows of a cell's writes is settled by its latest event there.
-use mathlib.Core.Path.{_≡_, refl, sym, _∙_, ap, subst}
+use mathlib.Core.Path.{_≡_, refl, sym, _∙_, ap}
 use mathlib.Core.List.{List, [], _∷_, _++_}
-use mathlib.Core.Bool.{Bool, true, false, cond, _&&_}
+use mathlib.Core.Bool.{Bool, true, false, cond}
 use mathlib.Core.Logic.{_⊎_, inl, inr}
 use Prim.Native.Nat.{ℕ, zero, suc, _+_, _<_, _≤_}
 use native.Mathlib.Numerals.{add-one}
 use native.Mathlib.Omega.{arith}
-use lib.ListN.{length, getD, set, take, drop, replicate}
+use lib.ListN.{length, getD, take, drop, replicate}
 use lib.Dec.{eqb, ltb}
 use Rattle.std.specs.declared.option.Option.{Option}
 use Rattle.std.specs.declared.option.Option.the-variants.{Some, None}
-use Rattle.std.proofs.shelf.Lists.{getD-set-other, take-append-drop, length-take-le}
-use Rattle.std.proofs.shelf.Tests.{cases-bool, cond-true, cond-false, and-parts, and-from, ltb-true, eqb-false, eq-eqb}
+use Rattle.std.proofs.shelf.Lists.{getD-set-other, take-append-drop, length-take}
+use Rattle.std.proofs.shelf.Tests.{cases-bool, cond-true, cond-false, and-parts, and-from, eq-eqb}
 use Rattle.model.specs.declared.event.Action.{Action}
 use Rattle.model.specs.declared.event.Event.{Event}
 use Rattle.model.specs.Search.{isOf, oneOn, lastPlace}
-use Rattle.order.specs.declared.view.View.{View}
 use Rattle.order.specs.declared.view.Views.{Views}
 use Rattle.order.specs.Test.{blank, initially, viewOf, viewing, passing, viewsFrom, views, onBoards}
 use Rattle.judge.specs.Settling.{Settled}
@@ -127,6 +126,6 @@ settled c b h (Some i) e f few =
     record {
       within = l;
       same = settled-by c b h i (sym e) ∙ ap (λ k. viewOf (views c (take k h)) b) (sym (add-one i));
-      boards = boards-take (i + 1) h f;
-      few = omega (arith, length-take-le (i + 1) h (omega arith));
+      boards = λ n. boards-take n h f;
+      few = λ n. omega (arith, length-take n h);
     }

@@ -1,8 +1,7 @@
 -- What the judge answers, and what its history is afterwards.
-use mathlib.Core.Path.{_≡_}
-use mathlib.Core.List.{List, [], _∷_, _++_}
-use mathlib.Core.Bool.{Bool, true, false, cond, _&&_, not}
-use Prim.Native.Nat.{ℕ, suc, min}
+use mathlib.Core.List.{List}
+use mathlib.Core.Bool.{Bool, cond, _&&_}
+use Prim.Native.Nat.{ℕ, min}
 use denote.Ref.{now}
 use lib.ListN.{length, getD, set, take}
 use lib.Dec.{eqb, ltb, leb}

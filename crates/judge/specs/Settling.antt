@@ -13,8 +13,8 @@ use Rattle.order.specs.Test.{blank, viewOf, views, onBoards}
 pub record SettledAt (h : List Event) (b c i : ℕ) : Type 0 where
   pub within : i < length h
   pub same : viewOf (views c h) b ≡ viewOf (views c (take (i + 1) h)) b
-  pub boards : onBoards (take (i + 1) h) ≡ true
-  pub few : length (take (i + 1) h) ≤ 2048
+  pub boards : (n : ℕ) → onBoards (take n h) ≡ true
+  pub few : (n : ℕ) → length (take n h) ≤ 2048
 
 -- none: nothing is known
 abbrev pub Settled : List Event → (b c : ℕ) → Option ℕ → Type 0

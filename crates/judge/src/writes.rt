@@ -4,7 +4,7 @@ ghost use Prim.Native.Nat.{_<_, _≤_};
 ghost use lib.ListN.{length};
 ghost use Rattle.std.specs.Slices.{found};
 ghost use Rattle.order.specs.Order.{eventAt};
-ghost use Rattle.order.specs.Test.{bringsBy, current, legalUnder, onBoards, writerBy, writerIn, writerOf};
+ghost use Rattle.order.specs.Test.{bringsBy, current, legalUnder, onBoards, writerIn, writerOf};
 ghost use Rattle.std.specs.declared.option.Option.the-variants.{Some};
 use model::event::Action;
 use model::event::Event;

@@ -1,5 +1,4 @@
 // What the judge answers on the worked examples and on bad input, and that a refused call changes nothing.
 pub mod flat;
-
 #[cfg(test)]
 mod tests;

@@ -1,18 +1,17 @@
 -- What one more event changes in the order: it comes after the last events it is linked to, and nothing else is new.
 -- A point is published if it is the cell's latest release or comes before it: that is what an acquire gets to know.
 use mathlib.Core.Path.{_≡_, refl, sym, _∙_, ap, subst}
-use mathlib.Core.List.{List, [], _∷_, _++_}
+use mathlib.Core.List.{List}
 use mathlib.Core.Logic.{_⊎_, inl, inr}
-use Prim.Native.Nat.{ℕ, zero, suc, _<_, _≤_}
+use Prim.Native.Nat.{ℕ, _<_}
 use native.Mathlib.Omega.{arith}
-use lib.ListN.{length}
 use Rattle.std.proofs.shelf.Tests.{cases-eq}
 use Rattle.model.specs.declared.event.Action.{Action}
 use Rattle.model.specs.declared.event.Event.{Event}
 use Rattle.order.specs.Order.{At, next, more, By, WriteOf, AcquireOf, ReleaseOf, Latest, Point, initial-write, initial-release, event}
-use Rattle.order.specs.Order.{LatestRelease, some-release, no-release, Directly, initial, same-board, acquire, Before, link, chain, IsWrite, Known, Overwritten}
+use Rattle.order.specs.Order.{LatestRelease, some-release, no-release, Directly, initial, same-board, acquire, Before, link, chain, IsWrite, Known}
 use Rattle.order.specs.Laws.{Within}
-use Rattle.order.proofs.History.{none-not-some, by-events, at-within, at-old, at-new, at-inv, next-more, latest-up, latest-old, latest-new, latest-end, latest-inv, release-up, release-old, release-end, release-inv}
+use Rattle.order.proofs.History.{none-not-some, by-events, at-within, at-old, at-new, at-inv, latest-up, latest-old, latest-new, latest-end, latest-inv, release-up, release-old, release-end, release-inv}
 
 -- x is y or comes before it
 abbrev pub UpTo : List Event → ℕ → Point → Point → Type 0

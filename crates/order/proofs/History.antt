@@ -2,7 +2,7 @@
 use mathlib.Core.Path.{_≡_, refl, sym, _∙_, ap, subst}
 use mathlib.Core.List.{List, [], _∷_, _++_}
 use mathlib.Core.Logic.{_⊎_, inl, inr}
-use Prim.Native.Nat.{ℕ, zero, suc, _+_, _<_, _≤_}
+use Prim.Native.Nat.{ℕ, zero, suc, _<_, _≤_}
 use native.Mathlib.Numerals.{add-one}
 use native.Mathlib.Omega.{arith}
 use native.Mathlib.Nat.{le-of-suc-le-suc, not-suc-le-zero}
@@ -12,8 +12,8 @@ use Rattle.std.specs.declared.option.Option.{Option}
 use Rattle.std.specs.declared.option.Option.the-variants.{Some, None}
 use Rattle.model.specs.declared.event.Action.{Action}
 use Rattle.model.specs.declared.event.Event.{Event}
-use Rattle.order.specs.Order.{eventAt, At, next, more, By, WriteOf, AcquireOf, ReleaseOf, NoneBetween, Latest, Point, initial-write, initial-release, event}
-use Rattle.order.specs.Order.{LatestRelease, some-release, no-release, Directly, initial, same-board, acquire, Before, link, chain, IsWrite, Known, Overwritten, Owns}
+use Rattle.order.specs.Order.{eventAt, At, next, more, ReleaseOf, NoneBetween, Latest, Point, event}
+use Rattle.order.specs.Order.{LatestRelease, some-release, no-release}
 
 -- ── constructors apart ──
 

@@ -1,14 +1,13 @@
 -- The laws of the order of events.
 use mathlib.Core.Path.{_≡_, refl, sym, _∙_, ap, subst}
-use mathlib.Core.List.{List, [], _∷_, _++_}
+use mathlib.Core.List.{List, _++_}
 use mathlib.Core.Logic.{_⊎_, inl, inr, _↔_}
-use Prim.Native.Nat.{ℕ, zero, suc, _<_, _≤_}
+use Prim.Native.Nat.{ℕ, _<_}
 use native.Mathlib.Omega.{arith}
 use Rattle.std.proofs.shelf.Tests.{cases-eq}
-use Rattle.model.specs.declared.event.Action.{Action}
 use Rattle.model.specs.declared.event.Event.{Event}
-use Rattle.order.specs.Order.{At, next, more, By, WriteOf, AcquireOf, ReleaseOf, Latest, Point, initial-write, initial-release, event}
-use Rattle.order.specs.Order.{LatestRelease, some-release, no-release, Directly, initial, same-board, acquire, Before, link, chain, IsWrite, Known, Overwritten, Readable, Disciplined}
+use Rattle.order.specs.Order.{At, more, By, WriteOf, Point, initial-write, initial-release, event}
+use Rattle.order.specs.Order.{some-release, no-release, Directly, initial, same-board, acquire, Before, link, chain, Overwritten, Readable}
 use Rattle.order.specs.Laws.{place, Within, Handed, LawsOfOrder}
 use Rattle.order.proofs.History.{write-not-release, event-same, at-within, at-same, at-new, next-more, along}
 use Rattle.order.proofs.Growth.{UpTo, before-trans, before-up, before-old, before-up-to, new-last, known-on, known-own, write-up}

@@ -1,7 +1,7 @@
 -- The test of legal finds the highest-numbered readable write with the word, and finds none exactly where there is none.
 use mathlib.Core.Path.{_≡_, refl, sym, _∙_, ap, subst}
 use mathlib.Core.List.{List}
-use mathlib.Core.Bool.{Bool, true, false, cond, _&&_}
+use mathlib.Core.Bool.{Bool, true, false, _&&_}
 use mathlib.Core.Logic.{_⊎_, inl, inr, _↔_}
 use Prim.Native.Nat.{ℕ, zero, suc, _<_, _≤_}
 use native.Mathlib.Omega.{arith}
@@ -13,7 +13,7 @@ use Rattle.std.specs.declared.option.Option.the-variants.{Some, None}
 use Rattle.std.proofs.shelf.Tests.{true≢false, cases-bool, cases-order, eqb-true, eq-eqb, cond-true, cond-false, and-parts, and-from}
 use Rattle.model.specs.declared.event.Action.{Action}
 use Rattle.model.specs.declared.event.Event.{Event}
-use Rattle.order.specs.Order.{eventAt, At, next, Point, initial-write, initial-release, event, numbered, WriteOf, IsWrite, Brings, Readable, Legal}
+use Rattle.order.specs.Order.{Point, initial-write, initial-release, event, numbered, IsWrite, Brings, Readable, Legal}
 use Rattle.order.specs.Test.{readable, bringsBy, bringsIn, brings, highest, legalUnder, legal, onBoards, LegalBy, LegalDecided}
 use Rattle.order.proofs.History.{nothing-not-some, some-same, at-within, at-same, write-same}
 use Rattle.order.proofs.Tests.{readable-tells}

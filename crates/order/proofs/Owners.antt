@@ -1,10 +1,10 @@
 -- Who owns a cell, as one more event comes; so the computed owner is the owner, and in a history that keeps to ownership all
 -- releases of a cell are in one chain.
 use mathlib.Core.Path.{_≡_, refl, sym, _∙_, ap, subst}
-use mathlib.Core.List.{List, [], _∷_, _++_}
-use mathlib.Core.Bool.{Bool, true, false, cond}
+use mathlib.Core.List.{List, [], _∷_}
+use mathlib.Core.Bool.{true, false}
 use mathlib.Core.Logic.{_⊎_, inl, inr, _↔_}
-use Prim.Native.Nat.{ℕ, zero, suc, _<_, _≤_}
+use Prim.Native.Nat.{ℕ, _<_, _≤_}
 use native.Mathlib.Omega.{arith}
 use lib.Dec.{eqb}
 use Rattle.std.specs.declared.option.Option.{Option}
@@ -12,7 +12,7 @@ use Rattle.std.specs.declared.option.Option.the-variants.{Some, None}
 use Rattle.std.proofs.shelf.Tests.{cases-bool, eqb-true, eqb-false, cond-true, cond-false, eq-eqb, ne-eqb}
 use Rattle.model.specs.declared.event.Action.{Action}
 use Rattle.model.specs.declared.event.Event.{Event}
-use Rattle.order.specs.Order.{At, next, more, By, WriteOf, AcquireOf, ReleaseOf, NoneBetween, Latest, Point, initial-release, event, no-release, Before, Known, Owns, Disciplined}
+use Rattle.order.specs.Order.{At, next, more, WriteOf, AcquireOf, ReleaseOf, Latest, Point, initial-release, event, no-release, Before, Known, Owns, Disciplined}
 use Rattle.order.specs.Test.{ownerBy, ownerAfter, ownerFrom, ownerOf, OwnerDecided}
 use Rattle.order.proofs.History.{none-not-some, nothing-not-some, some-same, write-not-release, write-not-acquire, acquire-not-release, at-within, at-same, at-old, at-new, at-inv, next-more, by-events, none-old, none-up, none-end, latest-up, latest-old, latest-new, latest-end, latest-inv}
 use Rattle.order.proofs.Growth.{Published, From, known-on, known-new, before-up, before-new, before-acquire, published-inv, published-end, published-new}

@@ -1,16 +1,15 @@
 -- A sight is the set of points at or before one point: a board's latest event on a cell, or the cell's latest release.
 -- What a sight has, and which writes it has another write after, as one more event comes.
-use mathlib.Core.Path.{_≡_, refl, sym, _∙_, ap, subst}
-use mathlib.Core.List.{List, [], _∷_, _++_}
+use mathlib.Core.Path.{_≡_, refl, subst}
+use mathlib.Core.List.{List}
 use mathlib.Core.Logic.{_⊎_, inl, inr, _↔_}
-use Prim.Native.Nat.{ℕ, zero, suc, _<_, _≤_}
-use native.Mathlib.Omega.{arith}
+use Prim.Native.Nat.{ℕ}
 use Rattle.model.specs.declared.event.Action.{Action}
 use Rattle.model.specs.declared.event.Event.{Event}
-use Rattle.order.specs.Order.{At, next, more, By, WriteOf, AcquireOf, ReleaseOf, Point, initial-write, initial-release, event, Before, IsWrite, Known, Overwritten}
+use Rattle.order.specs.Order.{next, more, By, WriteOf, ReleaseOf, Point, event, Before, IsWrite, Known, Overwritten}
 use Rattle.order.specs.Laws.{Within}
 use Rattle.order.proofs.History.{write-not-release, write-not-acquire, acquire-not-release, at-new}
-use Rattle.order.proofs.Growth.{UpTo, Published, new-not-within, known-within, published-within, known-before, From, Since, before-up, before-old, before-inv, before-within, new-last, before-new, before-acquire}
+use Rattle.order.proofs.Growth.{Published, new-not-within, known-within, published-within, known-before, From, before-up, before-old, new-last, before-new, before-acquire}
 use Rattle.order.proofs.Growth.{known-inv, known-end, known-new, known-by, known-up, published-inv, published-end, published-new, write-up, write-inv, write-old, write-within}
 
 -- a write in sight that x is before

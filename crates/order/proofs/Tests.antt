@@ -1,10 +1,9 @@
 -- The views of a cell say which writes are in sight and which are overwritten; so the test of readable decides it.
 use mathlib.Core.Path.{_≡_, refl, sym, _∙_, ap, subst}
-use mathlib.Core.List.{List, [], _∷_, _++_}
-use mathlib.Core.Bool.{Bool, true, false, not, cond, _&&_, _||_}
-use mathlib.Core.Logic.{_⊎_, inl, inr, _↔_}
+use mathlib.Core.List.{List, [], _∷_}
+use mathlib.Core.Bool.{Bool, true, false, cond, _&&_, _||_}
+use mathlib.Core.Logic.{_⊎_, inl, inr}
 use Prim.Native.Nat.{ℕ, zero, suc, _+_, max, _<_, _≤_}
-use native.Mathlib.Nat.{add-suc}
 use native.Mathlib.Omega.{arith}
 use native.Mathlib.Decide.{ℕ-discrete}
 use lib.ListN.{length, getD, set, replicate}
@@ -13,17 +12,17 @@ use Rattle.std.specs.Orderings.{Decides}
 use Rattle.std.specs.declared.option.Option.{Option}
 use Rattle.std.specs.declared.option.Option.the-variants.{Some, None}
 use Rattle.std.proofs.shelf.Lists.{length-set, getD-set-same, getD-set-other}
-use Rattle.std.proofs.shelf.Tests.{true≢false, cases-bool, ltb-true, ltb-false, lt-ltb, le-ltb, eqb-true, eqb-false, eq-eqb, ne-eqb, cond-true, cond-false, and-parts, and-from, leb-true, le-leb, cases-lt}
-use Rattle.std.proofs.shelf.Ways.{tells, decides-like, decides-at, decides-not, decides-or}
+use Rattle.std.proofs.shelf.Tests.{true≢false, cases-bool, ltb-true, lt-ltb, le-ltb, eqb-true, eqb-false, eq-eqb, cond-true, cond-false, and-parts, and-from, leb-true, le-leb, cases-lt}
+use Rattle.std.proofs.shelf.Ways.{tells, decides-like, decides-at, decides-or}
 use Rattle.model.specs.declared.event.Action.{Action}
 use Rattle.model.specs.declared.event.Event.{Event}
 use Rattle.order.specs.declared.view.View.{View}
 use Rattle.order.specs.declared.view.Views.{Views}
-use Rattle.order.specs.Order.{eventAt, At, next, more, By, WriteOf, AcquireOf, ReleaseOf, Point, initial-write, initial-release, event, numbered, Directly, initial, same-board, acquire, Before, link, chain, no-release, IsWrite, Known, Overwritten, Readable}
+use Rattle.order.specs.Order.{eventAt, At, next, more, By, WriteOf, Point, initial-write, initial-release, event, numbered, Directly, initial, same-board, acquire, Before, link, chain, no-release, IsWrite, Known, Readable}
 use Rattle.order.specs.Test.{later, blank, initially, viewOf, writing, joining, putting, viewing, passing, viewsFrom, views, writerBy, writerIn, writerOf, bounds, current, readable, onBoards, ReadableDecided}
 use Rattle.order.specs.Laws.{Within}
-use Rattle.order.proofs.History.{none-not-some, some-event, nothing-not-some, some-same, write-not-release, write-not-acquire, acquire-not-release, at-within, at-old, at-new, at-inv, at-same, next-more, by-events}
-use Rattle.order.proofs.Growth.{Published, new-not-within, known-within, known-new, known-on, known-own}
+use Rattle.order.proofs.History.{none-not-some, some-event, nothing-not-some, some-same, write-not-release, acquire-not-release, at-within, at-inv, next-more, by-events}
+use Rattle.order.proofs.Growth.{Published, new-not-within, known-new, known-on, known-own}
 use Rattle.order.proofs.Sight.{Over, over-known, over-either, Same, over-same, same-else, same-release, same-acquire, same-published, same-releasing, known-write, over-write, over-new}
 
 -- ── the writer of a write ──

@@ -1,14 +1,13 @@
 -- Writes that only their own board knows of, writes with no later write, and what stays readable, as one more event comes.
-use mathlib.Core.Path.{_≡_, refl, sym, _∙_, ap, subst}
+use mathlib.Core.Path.{_≡_, sym, _∙_, ap, subst}
 use mathlib.Core.List.{List}
 use mathlib.Core.Logic.{_⊎_, inl, inr}
 use Prim.Native.Nat.{ℕ}
 use native.Mathlib.Omega.{arith}
 use Rattle.model.specs.declared.event.Action.{Action}
 use Rattle.model.specs.declared.event.Event.{Event}
-use Rattle.order.specs.Order.{At, next, more, By, WriteOf, ReleaseOf, Latest, Point, initial-release, event, LatestRelease, some-release, no-release, Before, IsWrite, Known, Overwritten, Readable}
-use Rattle.order.specs.Laws.{Within}
-use Rattle.order.proofs.History.{write-not-release, write-not-acquire, acquire-not-release, event-same, at-same, at-old, at-new}
+use Rattle.order.specs.Order.{At, next, more, By, WriteOf, Latest, Point, initial-release, event, LatestRelease, some-release, no-release, Before, IsWrite, Known, Overwritten, Readable}
+use Rattle.order.proofs.History.{write-not-release, acquire-not-release, event-same, at-same, at-old, at-new}
 use Rattle.order.proofs.Growth.{UpTo, Published, From, Since, new-not-within, known-within, before-inv, before-old, before-within, new-last, known-inv, write-up, write-inv, write-old, write-within}
 
 -- y is an event of the board p, and no release.

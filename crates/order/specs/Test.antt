@@ -1,6 +1,6 @@
 -- The tests of the memory model: what is readable, computed by one walk over the history.
 use mathlib.Core.Path.{_≡_}
-use mathlib.Core.List.{List, [], _∷_, _++_}
+use mathlib.Core.List.{List, [], _∷_}
 use mathlib.Core.Bool.{Bool, true, false, cond, _&&_}
 use Prim.Native.Nat.{ℕ, zero, suc, _<_, max}
 use lib.ListN.{length, getD, set, replicate}
@@ -13,7 +13,7 @@ use Rattle.model.specs.declared.event.Action.{Action}
 use Rattle.model.specs.declared.event.Event.{Event}
 use Rattle.order.specs.declared.view.View.{View}
 use Rattle.order.specs.declared.view.Views.{Views}
-use Rattle.order.specs.Order.{eventAt, At, next, Point, numbered, Readable, IsWrite, Brings, Legal, Owns}
+use Rattle.order.specs.Order.{eventAt, next, numbered, Readable, Brings, Legal, Owns}
 
 -- Writers are the boards 0 to 7, and 8 for no board, which made the initial write.
 

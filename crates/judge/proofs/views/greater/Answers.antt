@@ -1,9 +1,9 @@
-use mathlib.Core.Path.{_≡_, sym, ap, subst, _∙_}
+use mathlib.Core.Path.{_≡_, sym, subst, _∙_}
 use mathlib.Core.List.{List}
 use mathlib.Core.Logic.{_⊎_, inl, inr}
-use Prim.Native.Nat.{ℕ, max, _+_, _<_, _≤_}
+use Prim.Native.Nat.{ℕ, max, _+_, _<_}
 use native.Mathlib.Omega.{arith}
-use lib.ListN.{length, getD, set}
+use lib.ListN.{getD, set}
 use Rattle.std.proofs.shelf.Lists.{length-set, getD-set-same, getD-set-other, ext-getD}
 use Rattle.std.proofs.shelf.Tests.{cases-eq}
 use Rattle.order.specs.Test.{later}

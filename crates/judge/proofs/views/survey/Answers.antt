@@ -1,4 +1,4 @@
-use mathlib.Core.Path.{_≡_, sym, ap, _∙_}
+use mathlib.Core.Path.{sym, ap, _∙_}
 use mathlib.Core.List.{List}
 use Prim.Native.Nat.{ℕ, suc, _+_}
 use native.Mathlib.Numerals.{add-one}
@@ -7,7 +7,7 @@ use lib.ListN.{drop, length}
 use Rattle.std.proofs.shelf.Lists.{at-drop-more, at-drop-all}
 use Rattle.model.specs.declared.event.Event.{Event}
 use Rattle.order.specs.declared.view.Views.{Views}
-use Rattle.order.specs.Test.{initially, passing, viewsFrom}
+use Rattle.order.specs.Test.{viewsFrom}
 use Rattle.order.proofs.History.{at-getD}
 use Rattle.order.proofs.Tests.{board-at}
 use Rattle.judge.proofs.views.survey.Needs as need

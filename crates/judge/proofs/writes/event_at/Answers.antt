@@ -1,6 +1,6 @@
 use mathlib.Core.Path.{_≡_, sym}
 use mathlib.Core.Logic.{_⊎_, inl, inr}
-use Prim.Native.Nat.{ℕ, _<_}
+use Prim.Native.Nat.{_<_}
 use lib.ListN.{length}
 use Rattle.order.proofs.History.{at-none}
 use Rattle.judge.proofs.Finding.{event-below}

@@ -1,5 +1,5 @@
 use mathlib.Core.Path.{_≡_, refl, sym, ap, _∙_}
-use Prim.Native.Nat.{ℕ, min, _+_, _<_}
+use Prim.Native.Nat.{min, _<_}
 use native.Mathlib.Omega.{arith}
 use lib.ListN.{length, take, set}
 use Rattle.std.proofs.shelf.Lists.{length-set, length-take-le, take-more-set}
