@@ -7,7 +7,7 @@ use mathlib.Core.List.{List, [], _∷_}
 use Prim.Native.Nat.{ℕ, _<_}
 use native.Mathlib.Omega.{arith}
 use lib.Dec.{eqb, ltb}
-use Rattle.std.proofs.shelf.Tests.{false≢true, both-ways, cond-both, cond-false, or-parts, or-cases, eqb-true, eq-eqb, ltb-true, le-ltb}
+use Rattle.std.proofs.shelf.Tests.{both-ways, cond-both, cond-false, or-parts, or-cases, eqb-true, eq-eqb, ltb-true, le-ltb}
 use Rattle.std.specs.Iters.{lastOr}
 use Rattle.std.specs.Options.{isSome}
 use Rattle.std.specs.declared.option.Option.{Option}
@@ -219,31 +219,37 @@ ways k s Step.Land =
 pub way : (s t : State) (call : Step) (a : Answer) → Takes s call a t → Way s call a t
 way s t call a takes = subst (Meets (Way s call)) (takes .1) (ways (takes .0) s call)
 
--- a refused step changes nothing, and is refused rightly
+-- a refused step changes nothing
 
-abbrev isRefusal : Answer → Bool
-isRefusal (Answer.Word w) = false
-isRefusal (Answer.Landed x) = false
-isRefusal Answer.NothingWaits = false
-isRefusal Answer.Done = false
-isRefusal (Answer.Refused r) = true
-
-refused-way : {s t : State} {call : Step} {a : Answer} (r : Refusal) → Way s call a t → a ≡ Answer.Refused r → (t ≡ s) × Barred s call r
-refused-way {s = s} {call = call} r (refusing q barred) e = let is : q ≡ r = cc in (refl, subst (Barred s call) is barred)
-refused-way r (reading on guard puts) e = absurd (false≢true (ap isRefusal e))
-refused-way r (writing on puts) e = absurd (false≢true (ap isRefusal e))
-refused-way r (acquiring on guard puts) e = absurd (false≢true (ap isRefusal e))
-refused-way r (releasing on guard) e = absurd (false≢true (ap isRefusal e))
-refused-way r (writing-back on guard sends) e = absurd (false≢true (ap isRefusal e))
-refused-way r (ejecting on guard sends) e = absurd (false≢true (ap isRefusal e))
-refused-way r (landing first) e = absurd (false≢true (ap isRefusal e))
-refused-way r idling e = absurd (false≢true (ap isRefusal e))
+refused-way : {s t : State} {call : Step} {a : Answer} (r : Refusal) → Way s call a t → a ≡ Answer.Refused r → t ≡ s
+refused-way r (refusing q barred) e = refl
+refused-way r (reading on guard puts) e = cc
+refused-way r (writing on puts) e = cc
+refused-way r (acquiring on guard puts) e = cc
+refused-way r (releasing on guard) e = cc
+refused-way r (writing-back on guard sends) e = cc
+refused-way r (ejecting on guard sends) e = cc
+refused-way r (landing first) e = cc
+refused-way r idling e = cc
 
 pub refused-keeps : RefusedKeeps
-refused-keeps s t call r takes = refused-way r (way s t call (Answer.Refused r) takes) refl .0
+refused-keeps s t call r takes = refused-way r (way s t call (Answer.Refused r) takes) refl
+
+-- and is refused rightly
+
+barred-way : {s t : State} {call : Step} {a : Answer} (r : Refusal) → Way s call a t → a ≡ Answer.Refused r → Barred s call r
+barred-way {s = s} {call = call} r (refusing q barred) e = let is : q ≡ r = cc in subst (Barred s call) is barred
+barred-way r (reading on guard puts) e = absurd (let z : _≡_ {A = ℕ} 0 1 = cc in omega arith)
+barred-way r (writing on puts) e = absurd (let z : _≡_ {A = ℕ} 0 1 = cc in omega arith)
+barred-way r (acquiring on guard puts) e = absurd (let z : _≡_ {A = ℕ} 0 1 = cc in omega arith)
+barred-way r (releasing on guard) e = absurd (let z : _≡_ {A = ℕ} 0 1 = cc in omega arith)
+barred-way r (writing-back on guard sends) e = absurd (let z : _≡_ {A = ℕ} 0 1 = cc in omega arith)
+barred-way r (ejecting on guard sends) e = absurd (let z : _≡_ {A = ℕ} 0 1 = cc in omega arith)
+barred-way r (landing first) e = absurd (let z : _≡_ {A = ℕ} 0 1 = cc in omega arith)
+barred-way r idling e = absurd (let z : _≡_ {A = ℕ} 0 1 = cc in omega arith)
 
 pub refused-rightly : RefusedRightly
-refused-rightly s t call r takes = refused-way r (way s t call (Answer.Refused r) takes) refl .1
+refused-rightly s t call r takes = barred-way r (way s t call (Answer.Refused r) takes) refl
 
 -- a bench without boards refuses every step
 
