@@ -7,11 +7,11 @@ use mathlib.Core.List.{List, [], _∷_, _++_, map}
 use Prim.Native.Nat.{ℕ, zero, suc, _<_, _≤_}
 use native.Mathlib.Omega.{arith}
 use lib.Dec.{ltb}
-use lib.ListN.{length, getD, set, replicate}
+use lib.ListN.{length, set, replicate}
 use Rattle.std.proofs.shelf.Counted.{length-map-counting, getD-map-counting}
 use Rattle.std.proofs.shelf.Elements.{all-getD, all-weaker}
 use Rattle.std.proofs.shelf.Lists.{getD-past}
-use Rattle.std.proofs.shelf.Tests.{cases-bool, cases-lt, cond-both, cond-false, and-left, le-ltb}
+use Rattle.std.proofs.shelf.Tests.{cases-bool, cases-lt, cond-false, and-left, le-ltb}
 use Rattle.std.specs.Iters.{counting}
 use Rattle.std.specs.shelf.Lists.{All, kept-by}
 use Rattle.std.specs.declared.option.Option.{Option}
@@ -23,14 +23,14 @@ use Rattle.model.specs.declared.refusal.Refusal.{Refusal}
 use Rattle.model.specs.declared.step.Step.{Step}
 use Rattle.path.specs.Lines.{line, ofLane, lane, oldest}
 use Rattle.cache.specs.declared.place.Place.{Place}
-use Rattle.cache.specs.Places.{entryIn, placeFor, standsIn, takenIn, replaceIn, vacant, storeIn}
+use Rattle.cache.specs.Places.{placeFor, standsIn, takenIn, replaceIn, vacant, storeIn}
 use Rattle.state.specs.Cases.{Surely}
 use Rattle.state.specs.Cells.{project}
 use Rattle.state.specs.Chains.{Chain, end, link}
 use Rattle.state.specs.Opening.{quiet}
 use Rattle.state.specs.Sound.{Sound}
 use Rattle.state.specs.States.{State, cellsOf, cacheOf}
-use Rattle.state.specs.Steps.{Choice, Outcome, refuse, checked, kept, newEntry, fetched, read, write, land, step, Takes}
+use Rattle.state.specs.Steps.{Choice, Outcome, refuse, checked, kept, newEntry, fetched, read, write, land, step}
 use Rattle.state.proofs.Answered.{atPlace, atLane}
 use Rattle.state.proofs.Chains.{lists-answered}
 use Rattle.state.proofs.Flights.{heads-own}

@@ -29,7 +29,7 @@ use Rattle.state.specs.Steps.{carryOf, landed}
 use Rattle.state.proofs.Flights.{other-board, other-cell, lane-joined, lane-as-it-was, lane-left, lane-untouched}
 use Rattle.state.proofs.Kept.{cache-of, board-in, sound-puts}
 use Rattle.state.proofs.Stores.{entered}
-use Rattle.state.proofs.Ways.{On, Puts, stays, stores, Sends, quietly, carrying, Way, refusing, reading, writing, acquiring, releasing, writing-back, ejecting, landing, idling, way}
+use Rattle.state.proofs.Ways.{Puts, stays, stores, Sends, quietly, carrying, Way, refusing, reading, writing, acquiring, releasing, writing-back, ejecting, landing, idling, way}
 
 same : (x : Cell) → Same x x
 same x = record { entry = λ p. refl; flight = λ p. refl; owner = refl; memory = refl }

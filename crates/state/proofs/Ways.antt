@@ -1,13 +1,13 @@
 -- The ways through a step: whatever the choice, it is refused and leaves the state, or it is one of the protocol's moves
 -- with the move's guard, and what it does to the state is one of a few things.
 use mathlib.Core.Path.{_≡_, refl, sym, ap, subst, _∙_}
-use mathlib.Core.Bool.{Bool, true, false, cond, _||_}
+use mathlib.Core.Bool.{Bool, true, false, cond}
 use mathlib.Core.Logic.{inl, inr, ⊎-elim}
 use mathlib.Core.List.{List, [], _∷_}
 use Prim.Native.Nat.{ℕ, _<_}
 use native.Mathlib.Omega.{arith}
 use lib.Dec.{eqb, ltb}
-use Rattle.std.proofs.shelf.Tests.{both-ways, cond-both, cond-false, or-parts, or-cases, eqb-true, eq-eqb, ltb-true, le-ltb}
+use Rattle.std.proofs.shelf.Tests.{false≢true, both-ways, cond-both, cond-false, or-parts, or-cases, eqb-true, eq-eqb, ltb-true, le-ltb}
 use Rattle.std.specs.Iters.{lastOr}
 use Rattle.std.specs.Options.{isSome}
 use Rattle.std.specs.declared.option.Option.{Option}
@@ -21,7 +21,7 @@ use Rattle.model.specs.declared.refusal.Refusal.{Refusal}
 use Rattle.model.specs.declared.step.Step.{Step}
 use Rattle.path.specs.Lines.{lane, oldest, newest, startAt, started}
 use Rattle.cache.specs.declared.place.Place.{Place}
-use Rattle.cache.specs.Places.{entryIn, placeFor, replaceIn, takenIn, storeIn}
+use Rattle.cache.specs.Places.{placeFor, replaceIn, takenIn, storeIn}
 use Rattle.protocol.specs.Machine.{Guard, reads, acquires, releases, writes-back, ejects, readWord, afterRead, afterAcquire, cleaned, sent}
 use Rattle.protocol.specs.Machine as machine
 use Rattle.state.specs.Cells.{wordsOf, project, Barred, boards, cells, entries}
@@ -219,37 +219,31 @@ ways k s Step.Land =
 pub way : (s t : State) (call : Step) (a : Answer) → Takes s call a t → Way s call a t
 way s t call a takes = subst (Meets (Way s call)) (takes .1) (ways (takes .0) s call)
 
--- a refused step changes nothing
+-- a refused step changes nothing, and is refused rightly
 
-refused-way : {s t : State} {call : Step} {a : Answer} (r : Refusal) → Way s call a t → a ≡ Answer.Refused r → t ≡ s
-refused-way r (refusing q barred) e = refl
-refused-way r (reading on guard puts) e = cc
-refused-way r (writing on puts) e = cc
-refused-way r (acquiring on guard puts) e = cc
-refused-way r (releasing on guard) e = cc
-refused-way r (writing-back on guard sends) e = cc
-refused-way r (ejecting on guard sends) e = cc
-refused-way r (landing first) e = cc
-refused-way r idling e = cc
+abbrev isRefusal : Answer → Bool
+isRefusal (Answer.Word w) = false
+isRefusal (Answer.Landed x) = false
+isRefusal Answer.NothingWaits = false
+isRefusal Answer.Done = false
+isRefusal (Answer.Refused r) = true
+
+refused-way : {s t : State} {call : Step} {a : Answer} (r : Refusal) → Way s call a t → a ≡ Answer.Refused r → (t ≡ s) × Barred s call r
+refused-way {s = s} {call = call} r (refusing q barred) e = let is : q ≡ r = cc in (refl, subst (Barred s call) is barred)
+refused-way r (reading on guard puts) e = absurd (false≢true (ap isRefusal e))
+refused-way r (writing on puts) e = absurd (false≢true (ap isRefusal e))
+refused-way r (acquiring on guard puts) e = absurd (false≢true (ap isRefusal e))
+refused-way r (releasing on guard) e = absurd (false≢true (ap isRefusal e))
+refused-way r (writing-back on guard sends) e = absurd (false≢true (ap isRefusal e))
+refused-way r (ejecting on guard sends) e = absurd (false≢true (ap isRefusal e))
+refused-way r (landing first) e = absurd (false≢true (ap isRefusal e))
+refused-way r idling e = absurd (false≢true (ap isRefusal e))
 
 pub refused-keeps : RefusedKeeps
-refused-keeps s t call r takes = refused-way r (way s t call (Answer.Refused r) takes) refl
-
--- and is refused rightly
-
-barred-way : {s t : State} {call : Step} {a : Answer} (r : Refusal) → Way s call a t → a ≡ Answer.Refused r → Barred s call r
-barred-way {s = s} {call = call} r (refusing q barred) e = let is : q ≡ r = cc in subst (Barred s call) is barred
-barred-way r (reading on guard puts) e = absurd (let z : _≡_ {A = ℕ} 0 1 = cc in omega arith)
-barred-way r (writing on puts) e = absurd (let z : _≡_ {A = ℕ} 0 1 = cc in omega arith)
-barred-way r (acquiring on guard puts) e = absurd (let z : _≡_ {A = ℕ} 0 1 = cc in omega arith)
-barred-way r (releasing on guard) e = absurd (let z : _≡_ {A = ℕ} 0 1 = cc in omega arith)
-barred-way r (writing-back on guard sends) e = absurd (let z : _≡_ {A = ℕ} 0 1 = cc in omega arith)
-barred-way r (ejecting on guard sends) e = absurd (let z : _≡_ {A = ℕ} 0 1 = cc in omega arith)
-barred-way r (landing first) e = absurd (let z : _≡_ {A = ℕ} 0 1 = cc in omega arith)
-barred-way r idling e = absurd (let z : _≡_ {A = ℕ} 0 1 = cc in omega arith)
+refused-keeps s t call r takes = refused-way r (way s t call (Answer.Refused r) takes) refl .0
 
 pub refused-rightly : RefusedRightly
-refused-rightly s t call r takes = barred-way r (way s t call (Answer.Refused r) takes) refl
+refused-rightly s t call r takes = refused-way r (way s t call (Answer.Refused r) takes) refl .1
 
 -- a bench without boards refuses every step
 
