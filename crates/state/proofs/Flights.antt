@@ -9,7 +9,7 @@ use lib.ListN.{length, set}
 use lib.Dec.{eqb, ltb}
 use Rattle.std.proofs.shelf.Elements.{all-push, kept-by-passes}
 use Rattle.std.proofs.shelf.Lists.{append-nil, length-push, length-set, getD-set-same, getD-set-other, set-past}
-use Rattle.std.proofs.shelf.Tests.{cases-eq, cases-lt, cond-true, cond-false, cond-both, and-parts, and-from, and-left, and-right, eq-eqb, ne-eqb, eqb-true}
+use Rattle.std.proofs.shelf.Tests.{cases-eq, cases-lt, cond-true, cond-false, cond-both, and-parts, and-from, and-left, and-right, eq-eqb, ne-eqb, eqb-true, ltb-false, le-ltb}
 use Rattle.std.proofs.shelf.Ways.{tells}
 use Rattle.std.specs.shelf.Lists.{All, kept-by}
 use Rattle.std.specs.declared.option.Option.the-variants.{Some}
@@ -22,7 +22,6 @@ use Rattle.path.specs.Runs.{startReply, end, then}
 use Rattle.path.specs.declared.order.Order.the-variants.{Start, Land}
 use Rattle.path.specs.declared.order.Reply.the-variants.{Started, Landed}
 use Rattle.path.proofs.Lanes.{in-order}
-use Rattle.state.specs.Cells.{Limit, boards, cells, length-of-line}
 
 -- which lane a carry is of
 
@@ -80,19 +79,22 @@ module _ (ls : List (List Carry)) (x : Carry) (eight : length ls ≡ 8) (first :
 abbrev Own : ℕ → Carry → Type 0
 Own b x = (x .board ≡ b) × (x .cell ≤ 63)
 
+-- what holds of the line of each board, where the line of board b is another
+each-line : (P : ℕ → List Carry → Type 0) (ls : List (List Carry)) (b : ℕ) (l : List Carry) → b < length ls → P b l → ((k : ℕ) → P k (line ls k)) → (k : ℕ) → P k (line (set ls b l) k)
+each-line P ls b l h new old k =
+    ⊎-elim
+    (λ (e : k ≡ b). subst (λ j. P j (line (set ls b l) j)) (sym e) (subst (P b) (sym (getD-set-same ls b l [] h)) new))
+    (λ (ne : k ≡ b → ⊥). subst (P k) (sym (getD-set-other ls b k l [] ne)) (old k))
+    (cases-eq k b)
+
 proper-set : (n : ℕ) (ls : List (List Carry)) (b : ℕ) (l : List Carry) → Proper n ls → All (Own b) l → length l ≤ n → Proper n (set ls b l)
 proper-set n ls b l p own short =
     ⊎-elim
     (λ (h : b < length ls).
-    let each : (P : ℕ → List Carry → Type 0) → P b l → ((k : ℕ) → P k (line ls k)) → (k : ℕ) → P k (line (set ls b l) k) = λ P new old k.
-    ⊎-elim
-    (λ (e : k ≡ b). subst (λ j. P j (line (set ls b l) j)) (sym e) (subst (P b) (sym (getD-set-same ls b l [] h)) new))
-    (λ (ne : k ≡ b → ⊥). subst (P k) (sym (getD-set-other ls b k l [] ne)) (old k))
-    (cases-eq k b) in
     record {
       eight = length-set ls b l ∙ p .eight;
-      own = each (λ k. All (Own k)) own (p .own);
-      short = each (λ k xs. length xs ≤ n) short (p .short);
+      own = each-line (λ k. All (Own k)) ls b l h own (p .own);
+      short = each-line (λ k xs. length xs ≤ n) ls b l h short (p .short);
     })
     (λ (h : length ls ≤ b). subst (Proper n) (sym (set-past ls b l h)) p)
     (cases-lt b (length ls))
@@ -106,14 +108,15 @@ pub record Startable (n : ℕ) (ls : List (List Carry)) (x : Carry) : Type 0 whe
 pub startable : (n : ℕ) (ls : List (List Carry)) (x : Carry) (u : Unit {0}) → startAt n ls x ≡ Ok u → Startable n ls x
 startable n ls x u e = grind (arith, tells)
 
-pub start-limit : (n : ℕ) (ls : List (List Carry)) (x : Carry) (r : Refusal) → startAt n ls x ≡ Err r → Limit r
-start-limit n ls x r e = by (ltb 7 (x .board)) (ltb 63 (x .cell)) (ltb (length (line ls (x .board))) n) e
+-- a carry of a board and a cell that exist is refused only where its line is at its full length
+pub line-full : (n : ℕ) (ls : List (List Carry)) (x : Carry) (r : Refusal) → x .board < 8 → x .cell < 64 → startAt n ls x ≡ Err r → (r ≡ Refusal.LineFull) × (n ≤ length (line ls (x .board)))
+line-full n ls x r b c e =
+    by (ltb (length (line ls (x .board))) n) refl
+    (sym (cond-false (ltb 7 (x .board)) _ _ (le-ltb 7 (x .board) (omega arith)) ∙ cond-false (ltb 63 (x .cell)) _ _ (le-ltb 63 (x .cell) (omega arith))) ∙ e)
   where
-    by : (p q l : Bool) → _≡_ {A = Result (Unit {0}) Refusal} (cond p (Err Refusal.NoSuchBoard) (cond q (Err Refusal.NoSuchCell) (cond l (Ok tt) (Err Refusal.LineFull)))) (Err r) → Limit r
-    by true q l h = subst Limit (cc) boards
-    by false true l h = subst Limit (cc) cells
-    by false false false h = subst Limit (cc) length-of-line
-    by false false true h = absurd (let z : _≡_ {A = ℕ} 0 1 = cc in omega arith)
+    by : (q : Bool) → ltb (length (line ls (x .board))) n ≡ q → _≡_ {A = Result (Unit {0}) Refusal} (cond q (Ok tt) (Err Refusal.LineFull)) (Err r) → (r ≡ Refusal.LineFull) × (n ≤ length (line ls (x .board)))
+    by true full h = (cc, absurd (let z : _≡_ {A = ℕ} 0 1 = cc in omega arith))
+    by false full h = (cc, ltb-false (length (line ls (x .board))) n full)
 
 pub proper-started : (n : ℕ) (ls : List (List Carry)) (x : Carry) (u : Unit {0}) → startAt n ls x ≡ Ok u → Proper n ls → Proper n (started n ls x)
 proper-started n ls x u e p =

@@ -147,10 +147,9 @@ replaces ps c e valid =
 vacant-place : (ps : List Place) → takenIn ps < length ps → (i : ℕ) × (vacant ps i ≡ true)
 vacant-place [] h = absurd (omega arith)
 vacant-place (p ∷ ps) h =
-    let more = sumBy-cons (λ x. cond (isTaken x) 1 0) p ps in
     ⊎-elim
     (λ (t : isTaken p ≡ true).
-    let fewer : takenIn ps < length ps = grind (arith, more, t, h) in
+    let fewer : takenIn ps < length ps = grind (arith, sumBy-cons (λ x. cond (isTaken x) 1 0) p ps, t, h) in
     let r = vacant-place ps fewer in
     let parts = and-parts (ltb (r .0) (length ps)) (not (isTaken (getD ps (r .0) Empty))) (r .1) in
     (suc (r .0), and-from (ltb (suc (r .0)) (length (p ∷ ps))) (not (isTaken (getD ps (r .0) Empty))) (lt-ltb (suc (r .0)) (length (p ∷ ps)) (omega (arith, ltb-true (r .0) (length ps) (parts .0)))) (parts .1)))

@@ -1,17 +1,15 @@
 -- What a bench holds of one cell, and what a step is there, in the words of the cache protocol.
 use mathlib.Core.List.{List, map}
 use mathlib.Core.Bool.{cond}
-use mathlib.Core.Logic.{_⊎_}
 use Prim.Native.Nat.{ℕ, _<_}
 use lib.Dec.{eqb}
 use lib.ListN.{length}
 use Rattle.model.specs.declared.answer.Answer.{Answer}
 use Rattle.model.specs.declared.carry.Carry.{Carry}
-use Rattle.model.specs.declared.refusal.Refusal.{Refusal}
 use Rattle.model.specs.declared.step.Step.{Step}
 use Rattle.path.specs.Lines.{lane}
 use Rattle.cache.specs.Places.{entryIn}
-use Rattle.protocol.specs.Machine.{Cell, Move, Guard, Moves, readWord, reads, writes, acquires, releases, writes-back, completes, ejects, rests}
+use Rattle.protocol.specs.Machine.{Cell, Move, Moves, reads, writes, acquires, releases, writes-back, completes, ejects, rests}
 use Rattle.state.specs.States.{State, cacheOf, ownerOf, wordOf}
 
 abbrev pub wordsOf : List Carry → List ℕ
@@ -67,34 +65,3 @@ moveAt c Step.Land a = ifLanded a (λ x. onCell c (x .cell) (completes (x .board
 -- after it.
 abbrev pub Follows : State → Step → Answer → State → Type 0
 Follows s call a t = (c : ℕ) → c < length (s .words) → Moves (moveAt c call a) (project c s) (project c t)
-
--- the move that a step is meant to be, at its own cell
-abbrev pub cellOf : Step → ℕ
-cellOf (Step.Read b c) = c
-cellOf (Step.Write b c w) = c
-cellOf (Step.Acquire b c) = c
-cellOf (Step.Release b c) = c
-cellOf (Step.WriteBack b c) = c
-cellOf (Step.Eject b c) = c
-cellOf Step.Land = 0
-
-abbrev pub meant : State → Step → Move
-meant s (Step.Read b c) = reads b (readWord (project c s .entry b) (project c s .flight b) (project c s .memory))
-meant s (Step.Write b c w) = writes b w
-meant s (Step.Acquire b c) = acquires b
-meant s (Step.Release b c) = releases b
-meant s (Step.WriteBack b c) = writes-back b
-meant s (Step.Eject b c) = ejects b
-meant s Step.Land = rests
-
--- the bench's own limits, of which the protocol knows nothing: its boards, its cells, the entries of a cache and the
--- length of a line
-pub data Limit : Refusal → Type 0 where
-  boards : Limit Refusal.NoSuchBoard
-  cells : Limit Refusal.NoSuchCell
-  entries : Limit Refusal.CacheFull
-  length-of-line : Limit Refusal.LineFull
-
--- a refusal is by a limit of the bench, or the guard of the move that was meant does not hold
-abbrev pub Barred : State → Step → Refusal → Type 0
-Barred s call r = Limit r ⊎ (Guard (meant s call) (project (cellOf call) s) → ⊥)

@@ -8,9 +8,10 @@ use Rattle.model.specs.declared.carry.Carry.{Carry}
 use Rattle.model.specs.declared.refusal.Refusal.{Refusal}
 use Rattle.model.specs.declared.step.Step.{Step}
 use Rattle.path.specs.Lines.{Proper}
-use Rattle.state.specs.Cells.{Follows, Barred}
+use Rattle.state.specs.Cells.{Follows}
 use Rattle.state.specs.Chains.{Chain}
 use Rattle.state.specs.Opening.{opened}
+use Rattle.state.specs.Reasons.{Barred}
 use Rattle.state.specs.Sound.{Sound}
 use Rattle.state.specs.States.{State}
 use Rattle.state.specs.Steps.{Takes}
@@ -23,7 +24,7 @@ OpenedSound = (b e : ℕ) (ws : List ℕ) (ls : List (List Carry)) (n : ℕ) →
 abbrev pub SoundKept : Type 0
 SoundKept = (s t : State) (call : Step) (a : Answer) → Takes s call a t → Sound s → Sound t
 
--- no step changes how the bench was opened, nor how many boards, entries and cells it has
+-- no step changes how the bench was opened, how many boards, entries and cells it has, or the length of its lines
 pub record SameSizes (s t : State) : Type 0 where
   pub refusal : t .refusal ≡ s .refusal
   pub boards : t .boards ≡ s .boards
@@ -51,7 +52,7 @@ RefusedKeeps = (s t : State) (call : Step) (r : Refusal) → Takes s call (Answe
 
 -- and it is refused only by a limit of the bench, or where the protocol does not allow the move
 abbrev pub RefusedRightly : Type 0
-RefusedRightly = (s t : State) (call : Step) (r : Refusal) → Takes s call (Answer.Refused r) t → Barred s call r
+RefusedRightly = (s t : State) (call : Step) (r : Refusal) → Takes s call (Answer.Refused r) t → Sound s → Barred s call r
 
 -- a bench without boards, as a refused one is, refuses every step
 abbrev pub NoBoardsRefuse : Type 0

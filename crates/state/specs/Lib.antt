@@ -3,6 +3,7 @@ pub mod Cells
 pub mod Chains
 pub mod Laws
 pub mod Opening
+pub mod Reasons
 pub mod Sound
 pub mod States
 pub mod Steps
