@@ -2,9 +2,13 @@
 use mathlib.Core.Bool.{cond}
 use mathlib.Core.List.{List, [], _∷_}
 use Prim.Native.Nat.{ℕ}
-use lib.Dec.{eqb}
+use lib.Dec.{eqb, ltb}
 use Rattle.std.specs.declared.option.Option.{Option}
 use Rattle.std.specs.declared.option.Option.the-variants.{Some, None}
+use Rattle.std.specs.declared.result.Result.{Result}
+use Rattle.std.specs.declared.result.Result.the-variants.{Ok, Err}
+use Rattle.model.specs.declared.refusal.Refusal.{Refusal}
+use Rattle.model.specs.declared.refusal.Refusal.the-variants.{MalformedLine, TextTooLong}
 use Rattle.model.specs.declared.step.Step.{Step}
 use Rattle.model.specs.declared.step.Step.the-variants.{Read, Write, Acquire, Release, WriteBack, Eject, Land}
 use Rattle.grammar.specs.declared.kind.Kind.{Kind}
@@ -49,6 +53,14 @@ stepOf k c s =
 -- the step that a line says, by its form
 abbrev pub stepIn : Kind → Piece → Option TraceStep
 stepIn k p = andThen (stepParts p) (λ q. stepOf k (q .0) (q .1))
+
+-- a step after i others, of which a trace has 2,048 at most
+abbrev pub room : ℕ → Option TraceStep → Result TraceStep Refusal
+room i (Some s) = cond (ltb i 2048) (Ok s) (Err TextTooLong)
+room i None = Err MalformedLine
+
+abbrev pub stepSaid : Kind → ℕ → Option Piece → Result TraceStep Refusal
+stepSaid k i o = room i (andThen o (stepIn k))
 
 -- the step without the word that a log adds
 abbrev pub plainStep : TraceStep → Step

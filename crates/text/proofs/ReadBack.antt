@@ -19,17 +19,17 @@ use Rattle.model.specs.declared.refusal.Refusal.the-variants.{SizeOutOfRange, T
 use Rattle.grammar.specs.declared.kind.Kind.{Kind}
 use Rattle.grammar.specs.declared.kind.Kind.the-variants.{Run, Log}
 use Rattle.grammar.specs.declared.trace_step.TraceStep.{TraceStep}
-use Rattle.grammar.specs.Numbers.{andThen}
-use Rattle.grammar.specs.Pieces.{Piece, holds, piece, isRemark, fieldOf}
+use Rattle.grammar.specs.Fields.{wanted, kindSaid, ranged, numberSaid}
+use Rattle.grammar.specs.Pieces.{Piece, holds, piece, isRemark}
 use Rattle.grammar.specs.Printing.{Word, Writable, kindLine as kindPrinted, fieldLine, stepLine}
-use Rattle.grammar.specs.Steps.{stepIn}
+use Rattle.grammar.specs.Steps.{room}
 use Rattle.grammar.proofs.Prints.{named, step-back, kind-back, field-back, step-plain, kind-plain, field-plain, step-told, kind-told, field-told}
 use Rattle.text.specs.declared.fault.Fault.{Fault}
 use Rattle.text.specs.declared.header.Header.{Header}
 use Rattle.text.specs.declared.placed_step.PlacedStep.{PlacedStep}
-use Rattle.text.specs.Course.{Course, room, stepSaid, onward, course}
+use Rattle.text.specs.Course.{Course, onward, course}
 use Rattle.text.specs.Faults.{faultAt}
-use Rattle.text.specs.Heading.{wanted, kindSaid, ranged, numberSaid, kindLine, numberLine, andNext, heading}
+use Rattle.text.specs.Heading.{kindLine, numberLine, andNext, heading}
 use Rattle.text.specs.Lines.{grown, lines}
 use Rattle.text.specs.Printing.{printed, Remarked, end, line, remark, textOf, numbers, placed, traceAt, InRange, ReadsBack}
 use Rattle.text.specs.Reading.{Trace, opening, courseAfter, complete, reading}

@@ -17,10 +17,10 @@ use Rattle.grammar.specs.declared.kind.Kind.{Kind}
 use Rattle.grammar.specs.declared.trace_step.TraceStep.{TraceStep}
 use Rattle.grammar.specs.Numbers.{andThen}
 use Rattle.grammar.specs.Pieces.{Piece, piece, isRemark}
-use Rattle.grammar.specs.Steps.{stepIn}
+use Rattle.grammar.specs.Steps.{room, stepIn, stepSaid}
 use Rattle.text.specs.declared.placed_step.PlacedStep.{PlacedStep}
 use Rattle.text.specs.declared.reader.Reader.{Reader}
-use Rattle.text.specs.Course.{room, stepSaid, further, onward, course}
+use Rattle.text.specs.Course.{further, onward, course}
 use Rattle.text.specs.Faults.{atLine}
 use Rattle.text.specs.Readers.{linesAhead, laterLines, firstPiece, left, Kept, Passed}
 use Rattle.text.specs.Telling.{told}

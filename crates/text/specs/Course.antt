@@ -1,31 +1,18 @@
 -- The steps of a trace after its header.
-use mathlib.Core.Bool.{cond}
 use mathlib.Core.List.{List, [], _∷_}
 use Prim.Native.Nat.{ℕ, _+_}
-use lib.Dec.{ltb}
 use Rattle.std.specs.declared.option.Option.{Option}
 use Rattle.std.specs.declared.option.Option.the-variants.{Some, None}
 use Rattle.std.specs.declared.result.Result.{Result}
 use Rattle.std.specs.declared.result.Result.the-variants.{Ok, Err}
 use Rattle.model.specs.declared.refusal.Refusal.{Refusal}
-use Rattle.model.specs.declared.refusal.Refusal.the-variants.{MalformedLine, TextTooLong}
 use Rattle.grammar.specs.declared.kind.Kind.{Kind}
 use Rattle.grammar.specs.declared.trace_step.TraceStep.{TraceStep}
-use Rattle.grammar.specs.Numbers.{andThen}
-use Rattle.grammar.specs.Pieces.{Piece}
-use Rattle.grammar.specs.Steps.{stepIn}
+use Rattle.grammar.specs.Steps.{stepSaid}
 use Rattle.text.specs.declared.fault.Fault.{Fault}
 use Rattle.text.specs.declared.placed_step.PlacedStep.{PlacedStep}
 use Rattle.text.specs.Faults.{faultAt}
 use Rattle.text.specs.Telling.{Told}
-
--- a step after i others, of which a trace has 2,048 at most
-abbrev pub room : ℕ → Option TraceStep → Result TraceStep Refusal
-room i (Some s) = cond (ltb i 2048) (Ok s) (Err TextTooLong)
-room i None = Err MalformedLine
-
-abbrev pub stepSaid : Kind → ℕ → Option Piece → Result TraceStep Refusal
-stepSaid k i o = room i (andThen o (stepIn k))
 
 -- the steps up to the end or to the first fault, and that fault
 pub record Course : Type 0 where

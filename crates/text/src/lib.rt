@@ -6,5 +6,4 @@ pub mod header;
 pub mod placed_step;
 mod position;
 pub mod reader;
-mod said;
 pub mod trace;

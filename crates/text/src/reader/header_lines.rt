@@ -1,15 +1,16 @@
 ghost use mathlib.Core.Path.{_≡_};
 ghost use Rattle.std.specs.Results.{Cases};
-ghost use Rattle.text.specs.Heading.{kindSaid, numberSaid, kindLine, numberLine, heading as headingOf};
+ghost use Rattle.grammar.specs.Fields.{kindSaid, numberSaid};
+ghost use Rattle.text.specs.Heading.{kindLine, numberLine, heading as headingOf};
 ghost use Rattle.text.specs.Readers.{linesAhead, firstPiece, left, Kept, Passed};
 use super::super::fault::Fault;
 use super::super::fault::at_line;
 use super::super::header::Header;
 use super::super::position::LineGuard;
-use super::super::said::kind_said;
-use super::super::said::number_said;
 use super::Reader;
 use super::lines::take_item;
+use grammar::header_line::kind_said;
+use grammar::header_line::number_said;
 use grammar::kind::Kind;
 use model::refusal::Refusal;
 

@@ -1,12 +1,12 @@
 ghost use mathlib.Core.Path.{_≡_};
 ghost use Rattle.std.specs.Results.{Cases};
-ghost use Rattle.text.specs.Course.{stepSaid};
+ghost use Rattle.grammar.specs.Steps.{stepSaid};
 ghost use Rattle.text.specs.Readers.{linesAhead, firstPiece, Kept, Passed};
 use super::super::position::LineGuard;
-use super::super::said::step_said;
 use super::Reader;
 use super::lines::take_item;
 use grammar::kind::Kind;
+use grammar::step_line::step_said;
 use grammar::trace_step::TraceStep;
 use model::refusal::Refusal;
 

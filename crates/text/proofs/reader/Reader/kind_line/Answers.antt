@@ -1,5 +1,5 @@
 use mathlib.Core.Path.{refl}
-use Rattle.text.specs.Heading.{kindSaid}
+use Rattle.grammar.specs.Fields.{kindSaid}
 use Rattle.text.proofs.Takes.{tried-line}
 use Rattle.text.proofs.reader.Reader.kind_line.Needs as need
 

@@ -1,5 +1,5 @@
 use mathlib.Core.Path.{refl}
-use Rattle.text.specs.Heading.{numberSaid}
+use Rattle.grammar.specs.Fields.{numberSaid}
 use Rattle.text.proofs.Takes.{tried-line}
 use Rattle.text.proofs.reader.Reader.number_line.Needs as need
 
