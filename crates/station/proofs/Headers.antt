@@ -19,7 +19,8 @@ use Rattle.grammar.specs.Pieces.{Piece}
 use Rattle.text.specs.declared.fault.Fault.{Fault}
 use Rattle.text.specs.declared.header.Header.{Header}
 use Rattle.text.specs.Faults.{faultAt}
-use Rattle.text.specs.Heading.{ranged, numberSaid, numberLine, kindLine, andNext, heading}
+use Rattle.grammar.specs.Fields.{ranged, numberSaid}
+use Rattle.text.specs.Heading.{numberLine, kindLine, andNext, heading}
 use Rattle.text.specs.Lines.{lines}
 use Rattle.text.specs.Reading.{headerIn}
 use Rattle.text.specs.Telling.{Told, Left, leftFrom, answered, taking, taken}
