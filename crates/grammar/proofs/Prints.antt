@@ -1,16 +1,13 @@
 -- What is printed is read back, number by number and line by line.
-use mathlib.Core.Path.{_≡_, refl, sym, ap, subst, _∙_}
+use mathlib.Core.Path.{_≡_, refl, sym, ap, _∙_}
 use mathlib.Core.Bool.{Bool, true, false, cond, not, _&&_, _||_}
 use mathlib.Core.List.{List, [], _∷_, _++_}
 use mathlib.Core.Logic.{⊎-elim}
-use Prim.Native.Nat.{ℕ, _+_, _-_, _*_, _/_, _%_, _^_, _≤_, _<_}
+use Prim.Native.Nat.{ℕ, _+_, _-_, _*_, _/_, _%_, _≤_, _<_}
 use native.Mathlib.Omega.{arith}
-use borrow.Author.Needs.{needs}
 use lib.Dec.{eqb, leb}
-use lib.ListN.{length}
 use Rattle.std.specs.Text.{asciiDigit}
 use Rattle.std.specs.Written.{decimal}
-use Rattle.std.specs.declared.option.Option.{Option}
 use Rattle.std.specs.declared.option.Option.the-variants.{Some, None}
 use Rattle.std.proofs.shelf.Decimals.{decimal-by-steps}
 use Rattle.std.proofs.shelf.Lists.{append-assoc, append-nil}
@@ -23,8 +20,8 @@ use Rattle.grammar.specs.declared.kind.Kind.the-variants.{Run, Log}
 use Rattle.grammar.specs.declared.trace_step.TraceStep.{TraceStep}
 use Rattle.grammar.specs.declared.trace_step.TraceStep.the-variants.{Plain, ReadWord}
 use Rattle.grammar.specs.Fields.{kindOf, numberAfter}
-use Rattle.grammar.specs.Numbers.{andThen, firstByte, digits, numberFrom, number, dot, alone, whole, place, placeAlone, placeWord}
-use Rattle.grammar.specs.Pieces.{Piece, remark, field, holds, stepOrField, plainPiece, piece, isRemark, fieldOf}
+use Rattle.grammar.specs.Numbers.{andThen, digits, number, dot, alone, whole, place, placeAlone, placeWord}
+use Rattle.grammar.specs.Pieces.{remark, field, holds, stepOrField, plainPiece, piece, isRemark, fieldOf}
 use Rattle.grammar.specs.Printing.{Word, Words, Writable, kindLine, fieldLine, placeText, wordText, stepLine}
 use Rattle.grammar.specs.Steps.{at, atWord, writeOf, readOf, stepIn}
 

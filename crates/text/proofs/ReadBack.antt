@@ -1,8 +1,8 @@
 -- A printed trace is read back, whatever remarks stand between its lines.
 use mathlib.Core.Path.{_≡_, refl, sym, ap, _∙_}
-use mathlib.Core.Bool.{Bool, true, false, cond, _&&_}
+use mathlib.Core.Bool.{true, false, _&&_}
 use mathlib.Core.List.{List, [], _∷_, _++_, map}
-use Prim.Native.Nat.{ℕ, suc, _+_, _≤_, _<_}
+use Prim.Native.Nat.{ℕ, suc, _+_, _≤_}
 use native.Mathlib.Omega.{arith}
 use lib.Chars.{codes}
 use lib.Dec.{eqb, leb, ltb}
@@ -21,20 +21,19 @@ use Rattle.grammar.specs.declared.kind.Kind.the-variants.{Run, Log}
 use Rattle.grammar.specs.declared.trace_step.TraceStep.{TraceStep}
 use Rattle.grammar.specs.Fields.{wanted, kindSaid, ranged, numberSaid}
 use Rattle.grammar.specs.Pieces.{Piece, holds, piece, isRemark}
-use Rattle.grammar.specs.Printing.{Word, Writable, kindLine as kindPrinted, fieldLine, stepLine}
+use Rattle.grammar.specs.Printing.{Writable, kindLine as kindPrinted, fieldLine, stepLine}
 use Rattle.grammar.specs.Steps.{room}
 use Rattle.grammar.proofs.Prints.{named, step-back, kind-back, field-back, step-plain, kind-plain, field-plain, step-told, kind-told, field-told}
 use Rattle.text.specs.declared.fault.Fault.{Fault}
 use Rattle.text.specs.declared.header.Header.{Header}
-use Rattle.text.specs.declared.placed_step.PlacedStep.{PlacedStep}
-use Rattle.text.specs.Course.{Course, onward, course}
+use Rattle.text.specs.Course.{onward, course}
 use Rattle.text.specs.Faults.{faultAt}
-use Rattle.text.specs.Heading.{kindLine, numberLine, andNext, heading}
+use Rattle.text.specs.Heading.{numberLine, andNext, heading}
 use Rattle.text.specs.Lines.{grown, lines}
 use Rattle.text.specs.Printing.{printed, Remarked, end, line, remark, textOf, numbers, placed, traceAt, InRange, ReadsBack}
-use Rattle.text.specs.Reading.{Trace, opening, courseAfter, complete, reading}
-use Rattle.text.specs.Telling.{Told, Left, heard, told, leftFrom, answered, taken}
-use Rattle.text.proofs.Takes.{heard-other}
+use Rattle.text.specs.Reading.{opening, courseAfter, complete, reading}
+use Rattle.text.specs.Telling.{Told, Left, told, leftFrom, answered, taken}
+use Rattle.text.proofs.Takes.{told-first}
 
 -- a text of lines has those lines
 
@@ -70,7 +69,7 @@ Telling l = isRemark (piece l) ≡ false
 told-remarked : {ls ms : List (List ℕ)} → Remarked ls ms → All Telling ls → (n : ℕ) → told n (map Some ms) ≡ toldAt (numbers n ms) ls
 told-remarked end h n = refl
 told-remarked (line {l} {ls} {ms} d) h n =
-    heard-other n (piece l) (told (n + 1) (map Some ms)) (h .0)
+    told-first n (Some l) (map Some ms) (h .0)
     ∙ ap (λ ts. record { line = n; says = piece l } ∷ ts) (told-remarked d (h .1) (n + 1))
     ∙ ap (λ ns. toldAt ns (l ∷ ls)) (sym (cond-false (isRemark (piece l)) (numbers (n + 1) ms) (n ∷ numbers (n + 1) ms) (h .0)))
 told-remarked (remark r p d) h n = told-remarked d h (n + 1)

@@ -1,6 +1,6 @@
 -- One step more of a course.
 use mathlib.Core.Path.{_≡_, refl, sym, ap, _∙_}
-use mathlib.Core.Bool.{Bool, true, false, cond}
+use mathlib.Core.Bool.{true, false, cond}
 use mathlib.Core.List.{List, [], _∷_}
 use Prim.Native.Nat.{ℕ, _+_, _<_}
 use native.Mathlib.Omega.{arith}
@@ -18,13 +18,12 @@ use Rattle.grammar.specs.declared.trace_step.TraceStep.{TraceStep}
 use Rattle.grammar.specs.Numbers.{andThen}
 use Rattle.grammar.specs.Pieces.{Piece, piece, isRemark}
 use Rattle.grammar.specs.Steps.{room, stepIn, stepSaid}
-use Rattle.text.specs.declared.placed_step.PlacedStep.{PlacedStep}
 use Rattle.text.specs.declared.reader.Reader.{Reader}
 use Rattle.text.specs.Course.{further, onward, course}
 use Rattle.text.specs.Faults.{atLine}
 use Rattle.text.specs.Readers.{linesAhead, laterLines, firstPiece, left, Kept, Passed}
 use Rattle.text.specs.Telling.{told}
-use Rattle.text.proofs.Takes.{heard-other, passed-left}
+use Rattle.text.proofs.Takes.{told-first, passed-left}
 
 -- a step is accepted only where there is room for it
 room-left : (i : ℕ) (o : Option TraceStep) (s : TraceStep) → Ok s ≡ room i o → i < 2048
@@ -42,7 +41,7 @@ step-room k i n p (Err r) s o e = let z : _≡_ {A = ℕ} 0 1 = cc in absurd (om
 course-first : (k : Kind) (i n : ℕ) (ls : List (Option (List ℕ))) (s : TraceStep) → isRemark (firstPiece ls) ≡ false → Ok s ≡ stepSaid k i (firstPiece ls) → course k i (told n ls) ≡ further (record { line = n; step = s }) (course k (i + 1) (told (n + 1) (laterLines ls)))
 course-first k i n [] s h e = let z : _≡_ {A = ℕ} 0 1 = cc in absurd (omega arith)
 course-first k i n (l ∷ ls) s h e =
-    ap (course k i) (heard-other n (andThen l piece) (told (n + 1) ls) h) ∙ ap (λ r. onward r n (course k (i + 1) (told (n + 1) ls))) (sym e)
+    ap (course k i) (told-first n l ls h) ∙ ap (λ r. onward r n (course k (i + 1) (told (n + 1) ls))) (sym e)
 
 -- from old to mid only remarks are passed, and then the line at mid, of number n, is taken for the step s
 pub step-taken : (k : Kind) (i n : ℕ) (old mid new : Reader) (r : Result TraceStep Refusal) (s : TraceStep) → Ok s ≡ atLine r n → r ≡ stepSaid k i (firstPiece (linesAhead mid)) → Cases r (λ _. Passed mid new) (λ _. Kept mid new) → left mid ≡ left old → isRemark (firstPiece (linesAhead mid)) ≡ false → n ≡ mid .at .line + 1 → course k i (left old .telling) ≡ further (record { line = n; step = s }) (course k (i + 1) (left new .telling))

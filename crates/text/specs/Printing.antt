@@ -6,7 +6,6 @@ use Prim.Native.Nat.{ℕ, _+_, _≤_}
 use lib.Chars.{codes}
 use lib.ListN.{length, drop}
 use Rattle.std.specs.shelf.Lists.{All}
-use Rattle.std.specs.declared.option.Option.the-variants.{Some}
 use Rattle.std.specs.declared.result.Result.the-variants.{Ok}
 use Rattle.grammar.specs.declared.kind.Kind.{Kind}
 use Rattle.grammar.specs.declared.trace_step.TraceStep.{TraceStep}

@@ -1,4 +1,5 @@
 -- What the lines of a text tell once the remarks are left out: each line that is none, under its number.
+use mathlib.Core.Bool.{cond}
 use mathlib.Core.List.{List, [], _∷_}
 use Prim.Native.Nat.{ℕ, _+_}
 use lib.ListN.{length}
@@ -9,7 +10,7 @@ use Rattle.std.specs.declared.result.Result.the-variants.{Ok, Err}
 use Rattle.model.specs.declared.refusal.Refusal.{Refusal}
 use Rattle.model.specs.declared.refusal.Refusal.the-variants.{MalformedLine}
 use Rattle.grammar.specs.Numbers.{andThen}
-use Rattle.grammar.specs.Pieces.{Piece, remark, step, field, piece}
+use Rattle.grammar.specs.Pieces.{Piece, piece, isRemark}
 use Rattle.text.specs.declared.fault.Fault.{Fault}
 use Rattle.text.specs.Faults.{faultAt}
 
@@ -18,16 +19,11 @@ pub record Told : Type 0 where
   pub line : ℕ
   pub says : Option Piece
 
-abbrev pub heard : ℕ → Option Piece → List Told → List Told
-heard n None ts = record { line = n; says = None } ∷ ts
-heard n (Some (remark r)) ts = ts
-heard n (Some (step c r)) ts = record { line = n; says = Some (step c r) } ∷ ts
-heard n (Some (field l)) ts = record { line = n; says = Some (field l) } ∷ ts
-
 -- of lines of which the first has the number n
 abbrev pub told : ℕ → List (Option (List ℕ)) → List Told
 told n [] = []
-told n (l ∷ ls) = heard n (andThen l piece) (told (n + 1) ls)
+told n (l ∷ ls) =
+    cond (isRemark (andThen l piece)) (told (n + 1) ls) (record { line = n; says = andThen l piece } ∷ told (n + 1) ls)
 
 -- what is left of a text: what its lines tell, and the number of the line after the last
 pub record Left : Type 0 where
