@@ -1,5 +1,5 @@
 -- A printed trace is read back, whatever remarks stand between its lines.
-use mathlib.Core.Path.{_≡_, refl, sym, ap, _∙_}
+use mathlib.Core.Path.{_≡_, refl, sym, ap, subst, _∙_}
 use mathlib.Core.Bool.{true, false, _&&_}
 use mathlib.Core.List.{List, [], _∷_, _++_, map}
 use Prim.Native.Nat.{ℕ, suc, _+_, _≤_}
@@ -26,11 +26,12 @@ use Rattle.grammar.specs.Steps.{room}
 use Rattle.grammar.proofs.Prints.{named, step-back, kind-back, field-back, step-plain, kind-plain, field-plain, step-told, kind-told, field-told}
 use Rattle.text.specs.declared.fault.Fault.{Fault}
 use Rattle.text.specs.declared.header.Header.{Header}
+use Rattle.text.specs.declared.placed_step.PlacedStep.{PlacedStep}
 use Rattle.text.specs.Course.{onward, course}
 use Rattle.text.specs.Faults.{faultAt}
 use Rattle.text.specs.Heading.{numberLine, andNext, heading}
 use Rattle.text.specs.Lines.{grown, lines}
-use Rattle.text.specs.Printing.{printed, Remarked, end, line, remark, textOf, numbers, placed, traceAt, InRange, ReadsBack}
+use Rattle.text.specs.Printing.{printed, Remarked, end, line, remark, textOf, numbers, InRange, GivesBack, ReadsBack}
 use Rattle.text.specs.Reading.{opening, courseAfter, complete, reading}
 use Rattle.text.specs.Telling.{Told, Left, told, leftFrom, answered, taken}
 use Rattle.text.proofs.Takes.{told-first}
@@ -133,7 +134,24 @@ module _ (k : Kind) (h : Header) (ss : List TraceStep) (fits : InRange h) where
       ∙ ap (λ r. andNext r (from-start (h .boards) (h .cells))) (number-back (codes "entries=") 1 8 (h .entries) n₄ (n₅ ∷ ns) l₄ e refl (fits .entries) (omega arith))
       ∙ ap (λ r. andNext r (λ start a. (Ok (record { boards = h .boards; cells = h .cells; entries = h .entries; start = start }), a))) (number-back (codes "start=") 0 4294967295 (h .start) n₅ ns l₅ e refl (omega arith, fits .start) (omega arith))
 
--- the steps
+-- the steps, each at its line
+
+abbrev placed : List ℕ → List TraceStep → List PlacedStep
+placed [] ss = []
+placed (n ∷ ns) [] = []
+placed (n ∷ ns) (s ∷ ss) = record { line = n; step = s } ∷ placed ns ss
+
+placed-steps : (ns : List ℕ) (ss : List TraceStep) → length ns ≡ length ss → map (λ p. p .step) (placed ns ss) ≡ ss
+placed-steps [] [] q = refl
+placed-steps [] (s ∷ ss) q = absurd (omega arith)
+placed-steps (n ∷ ns) [] q = absurd (omega arith)
+placed-steps (n ∷ ns) (s ∷ ss) q = ap (λ us. s ∷ us) (placed-steps ns ss (omega arith))
+
+placed-lines : (ns : List ℕ) (ss : List TraceStep) → length ns ≡ length ss → map (λ p. p .line) (placed ns ss) ≡ ns
+placed-lines [] [] q = refl
+placed-lines [] (s ∷ ss) q = absurd (omega arith)
+placed-lines (n ∷ ns) [] q = absurd (omega arith)
+placed-lines (n ∷ ns) (s ∷ ss) q = ap (λ ms. n ∷ ms) (placed-lines ns ss (omega arith))
 
 course-back : (k : Kind) (i : ℕ) (ss : List TraceStep) (ns : List ℕ) → All (Writable k) ss → i + length ss ≤ 2048 → length ns ≡ length ss → course k i (toldAt ns (map stepLine ss)) ≡ record { steps = placed ns ss; fault = None }
 course-back k i [] [] w few q = refl
@@ -189,13 +207,20 @@ module _ (k : Kind) (h : Header) (ss : List TraceStep) (fits : InRange h) (w : A
       ∙ ap (λ ts. heading k (record { telling = ts; end = e })) (told-remarked d printed-telling 1)
       ∙ heading-back k h ss fits (numbers 1 ms) e (numbers-length d printed-telling 1)
 
-  reading-back : (ms : List (List ℕ)) → length ss ≤ 2048 → Remarked (printed k h ss) ms → length (textOf ms) ≤ 60000 → reading k (textOf ms) ≡ Ok (traceAt h ss ms)
-  reading-back ms short d few =
+  steps-numbers : (ms : List (List ℕ)) → Remarked (printed k h ss) ms → length (drop 5 (numbers 1 ms)) ≡ length ss
+  steps-numbers ms d =
       let long = length-drop 5 (numbers 1 ms) in
       let all = numbers-length d printed-telling 1 in
       let steps = length-map ss stepLine in
+      omega arith
+
+  reading-back : (ms : List (List ℕ)) → length ss ≤ 2048 → Remarked (printed k h ss) ms → length (textOf ms) ≤ 60000 → reading k (textOf ms) ≡ Ok (record { header = h; steps = placed (drop 5 (numbers 1 ms)) ss })
+  reading-back ms short d few =
       ap (λ o. complete (o .0) (courseAfter (o .0) (course k 0 (o .1 .telling)))) (opening-back ms d few)
-      ∙ ap (complete (Ok h)) (course-back k 0 ss (drop 5 (numbers 1 ms)) w (omega arith) (omega arith))
+      ∙ ap (complete (Ok h)) (course-back k 0 ss (drop 5 (numbers 1 ms)) w (omega arith) (steps-numbers ms d))
 
 pub reads-back : ReadsBack
-reads-back k h ss ms fits w short d few = reading-back k h ss fits w ms short d few
+reads-back k h ss ms fits w short d few =
+    let ns = drop 5 (numbers 1 ms) in
+    let long = steps-numbers k h ss fits w ms d in
+    subst (GivesBack h ss ns) (sym (reading-back k h ss fits w ms short d few)) (refl, placed-steps ns ss long, placed-lines ns ss long)
