@@ -1,2 +1,6 @@
 pub mod Headers
+pub mod Lines
+pub mod LogLaws
+pub mod StepLaws
 pub mod Whole
+pub mod ZeroLaw

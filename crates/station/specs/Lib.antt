@@ -1,2 +1,3 @@
+pub mod Laws
 pub mod Tasks
 pub mod Verdicts
