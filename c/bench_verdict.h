@@ -13,7 +13,7 @@
  *   the line of the first read that is not  (1 to 60,000),
  *   BENCH_VERDICT_FAULT * refusal + line    if the log is faulty, or the judge refuses one of its steps.
  * `log` points to `length` bytes that can be read and is not NULL, not even where `length` is 0. The bytes are not
- * changed and not kept. The call takes no memory from the heap, and about 30 KiB of stack. */
+ * changed and not kept. The call takes no memory from the heap, and some 40 KiB of the stack (as measured, not proved). */
 uint64_t bench_verdict(const uint8_t *log, size_t length);
 
 #endif
