@@ -47,7 +47,7 @@ never z = absurd (omega arith)
 
 -- ── checks in turn ──
 
-after-there : {T : Type 0} (r : Result (Unit {0}) Refusal) (s : Result T Refusal) (x : T) → after r s ≡ Ok x → (r ≡ Ok tt) × (s ≡ Ok x)
+pub after-there : {T : Type 0} (r : Result (Unit {0}) Refusal) (s : Result T Refusal) (x : T) → after r s ≡ Ok x → (r ≡ Ok tt) × (s ≡ Ok x)
 after-there (Ok u) s x e = (refl, e)
 after-there (Err r) s x e = never (cc)
 
@@ -63,7 +63,7 @@ tests true true false e = never (cc)
 tests true false z e = never (cc)
 tests false y z e = never (cc)
 
-standing-there : (n m b c : ℕ) → standing n m b c ≡ Ok tt → (b < n) × (c < m)
+pub standing-there : (n m b c : ℕ) → standing n m b c ≡ Ok tt → (b < n) × (c < m)
 standing-there n m b c e = let t = tests (ranged n m) (ltb b n) (ltb c m) e in (ltb-true b n (t .0), ltb-true c m (t .1))
 
 in-range : (n m : ℕ) → 1 ≤ n → n ≤ 8 → 1 ≤ m → m ≤ 64 → ranged n m ≡ true
@@ -121,7 +121,7 @@ module _ (H : Header) (R : InRange H) (ws : List ℕ) (long : length ws ≡ H .c
       (((s .0, low), record { write = _; readable = l .readable; brings = l .brings }), kept h)
   step-there Skip h f q = (tt, kept h)
 
-  standing-on : (b c : ℕ) → b < H .boards → c < H .cells → standing (H .boards) (length ws) b c ≡ Ok tt
+  pub standing-on : (b c : ℕ) → b < H .boards → c < H .cells → standing (H .boards) (length ws) b c ≡ Ok tt
   standing-on b c p q =
       standing-back (H .boards) (length ws) b c (in-range (H .boards) (length ws) (R .boards .0) (R .boards .1) (omega (arith, R .cells .0)) (omega (arith, R .cells .1))) p (omega arith)
 
@@ -142,7 +142,7 @@ module _ (H : Header) (R : InRange H) (ws : List ℕ) (long : length ws ≡ H .c
   boards-on (Check b c w) h f x = ap onBoards (append-nil h) ∙ f
   boards-on Skip h f x = ap onBoards (append-nil h) ∙ f
 
-  one-more : (t : Task) (h : List Event) → length (h ++ eventIn t) ≤ length h + 1
+  pub one-more : (t : Task) (h : List Event) → length (h ++ eventIn t) ≤ length h + 1
   one-more (Note e) h = omega (arith, length-append h (e ∷ []))
   one-more (Check b c w) h = omega (arith, length-append h [])
   one-more Skip h = omega (arith, length-append h [])

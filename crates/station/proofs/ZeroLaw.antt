@@ -88,16 +88,16 @@ read-of (Ok g) ps None log t fits lined few e =
 read-of (Ok g) ps (Some f) log t fits lined few e = never (cc)
 read-of (Err g) ps f log t fits lined few e = never (cc)
 
-read : (log : List ℕ) (t : Trace) → reading Log log ≡ Ok t → Read log t
+pub read : (log : List ℕ) (t : Trace) → reading Log log ≡ Ok t → Read log t
 read log t e = let p = steps-placed Log log in read-of (headerIn Log log) (courseIn Log log .steps) (courseIn Log log .fault) log t (header-in-range Log log) (p .0) (p .1) e
 
 -- ── the law ──
 
 module _ (log : List ℕ) (t : Trace) (R : Read log t) where
-  long : length (startingWords (t .header)) ≡ t .header .cells
+  pub long : length (startingWords (t .header)) ≡ t .header .cells
   long = length-replicate (t .header .cells) (t .header .start)
 
-  start : (c : ℕ) → c < t .header .cells → getD (startingWords (t .header)) c 0 ≡ t .header .start
+  pub start : (c : ℕ) → c < t .header .cells → getD (startingWords (t .header)) c 0 ≡ t .header .start
   start c l = getD-replicate (t .header .cells) c (t .header .start) 0 l
 
   legal-there : verdictFor (Ok t) ≡ AllLegal → AllReadsLegal (t .header) (t .steps)

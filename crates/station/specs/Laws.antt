@@ -15,7 +15,8 @@ use Rattle.text.specs.Reading.{Trace, reading}
 use Rattle.station.specs.declared.task.Task.{Task}
 use Rattle.station.specs.declared.task.Task.the-variants.{Note, Check, Skip}
 use Rattle.station.specs.Tasks.{taskOf}
-use Rattle.station.specs.Verdicts.{numberOn}
+use Rattle.station.specs.declared.verdict.Verdict.the-variants.{FalseRead}
+use Rattle.station.specs.Verdicts.{numberOn, verdictOf}
 
 -- the events of some steps, in turn
 abbrev pub eventIn : Task → List Event
@@ -51,3 +52,19 @@ pub record AllReadsLegal (h : Header) (steps : List PlacedStep) : Type 0 where
 -- the number is 0 exactly if the text is a log without a fault and all of its reads are legal
 unfoldable pub ZeroExactly : Type 0
 ZeroExactly = (log : List ℕ) → (numberOn log ≡ 0) ↔ ((t : Trace) × (reading Log log ≡ Ok t) × AllReadsLegal (t .header) (t .steps))
+
+-- the read on line n is the first that is not legal
+pub record FirstFalse (h : Header) (steps : List PlacedStep) (n : ℕ) : Type 0 where
+  pub before : List PlacedStep
+  pub later : List PlacedStep
+  pub board : ℕ
+  pub cell : ℕ
+  pub word : ℕ
+  pub splits : steps ≡ before ++ readStep n board cell word ∷ later
+  pub so-far : AllReadsLegal h before
+  pub on-bench : (board < h .boards) × (cell < h .cells)
+  pub not-legal : Legal (eventsOf before) (h .start) cell board word → ⊥
+
+-- a read is told to be false exactly if the text is a log without a fault and that read is the first that is not legal
+unfoldable pub FalseExactly : Type 0
+FalseExactly = (log : List ℕ) (n : ℕ) → (verdictOf log ≡ FalseRead n) ↔ ((t : Trace) × (reading Log log ≡ Ok t) × FirstFalse (t .header) (t .steps) n)

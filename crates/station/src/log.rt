@@ -5,6 +5,7 @@ ghost use Rattle.grammar.specs.declared.kind.Kind.the-variants.{Log};
 ghost use Rattle.home.specs.PairHome.{sizeFor};
 ghost use Rattle.std.specs.declared.result.Result.the-variants.{Ok};
 ghost use Rattle.text.specs.Reading.{reading, headerOf, courseIn};
+ghost use Rattle.station.specs.Laws.{FalseExactly};
 ghost use Rattle.station.specs.Verdicts.{verdictOf, endOf, judgedTo};
 use crate::steps::judge_steps;
 use crate::verdict::Verdict;
@@ -44,10 +45,17 @@ fn judge_checked(header: Header, log: &[u8]) -> Verdict
     judge_under(header, log)
 }
 
+// Runs no code: it states which read is told to be false, in the words of the memory model.
+fn false_exactly()
+    ensures { λ _. ⌜ FalseExactly ⌝ }
+{}
+
 // The verdict on a text: its first fault as a log, if it has one; or else what the judge finds, step by step.
 pub fn judge_log(log: &[u8]) -> Verdict
-    ensures { λ r. ⌜ r ≡ verdictOf (now (log .entry)) ⌝ }
+    ensures verdict { λ r. ⌜ r ≡ verdictOf (now (log .entry)) ⌝ }
+    ensures law { λ _. ⌜ FalseExactly ⌝ }
 {
+    false_exactly();
     match check(Kind::Log, log) {
         Ok(header) => judge_checked(header, log),
         Err(fault) => Verdict::Faulty(fault),
