@@ -17,16 +17,18 @@ use Rattle.model.specs.declared.refusal.Refusal.the-variants.{TextTooLong}
 use Rattle.grammar.specs.declared.kind.Kind.{Kind}
 use Rattle.grammar.specs.declared.trace_step.TraceStep.{TraceStep}
 use Rattle.grammar.specs.Numbers.{andThen}
-use Rattle.grammar.specs.Pieces.{Piece, remark, step, field, piece}
+use Rattle.grammar.specs.Pieces.{Piece, piece, isRemark}
 use Rattle.text.specs.declared.fault.Fault.{Fault}
 use Rattle.text.specs.declared.header.Header.{Header}
 use Rattle.text.specs.declared.placed_step.PlacedStep.{PlacedStep}
-use Rattle.text.specs.Course.{Course, stepSaid, onward, course}
+use Rattle.grammar.specs.Fields.{kindSaid, numberSaid}
+use Rattle.grammar.specs.Steps.{stepSaid}
+use Rattle.text.specs.Course.{Course, onward, course}
 use Rattle.text.specs.Faults.{faultAt, atLine}
-use Rattle.text.specs.Heading.{kindSaid, numberSaid, kindLine, numberLine, andNext, heading}
+use Rattle.text.specs.Heading.{kindLine, numberLine, andNext, heading}
 use Rattle.text.specs.Lines.{lines}
 use Rattle.text.specs.Reading.{opening, courseAfter, courseIn, headerIn}
-use Rattle.text.specs.Telling.{Told, Left, heard, told, leftFrom, answered, taking, taken}
+use Rattle.text.specs.Telling.{Told, Left, told, leftFrom, answered, taking, taken}
 use Rattle.text.proofs.Steps.{step-room}
 
 abbrev Lined : Told → Type 0
@@ -37,15 +39,11 @@ OnLine p = 1 ≤ p .line
 
 -- ── lines ──
 
-heard-lined : (n : ℕ) (o : Option Piece) (ts : List Told) → 1 ≤ n → All Lined ts → All Lined (heard n o ts)
-heard-lined n None ts l a = (l, a)
-heard-lined n (Some (remark r)) ts l a = a
-heard-lined n (Some (step c r)) ts l a = (l, a)
-heard-lined n (Some (field f)) ts l a = (l, a)
-
 told-lined : (n : ℕ) (ls : List (Option (List ℕ))) → 1 ≤ n → All Lined (told n ls)
 told-lined n [] l = tt
-told-lined n (x ∷ ls) l = heard-lined n (andThen x piece) (told (n + 1) ls) l (told-lined (n + 1) ls (omega arith))
+told-lined n (x ∷ ls) l =
+    let rest : All Lined (told (n + 1) ls) = told-lined (n + 1) ls (omega arith) in
+    cond-both (isRemark (andThen x piece)) (told (n + 1) ls) (record { line = n; says = andThen x piece } ∷ told (n + 1) ls) (All Lined) (λ _. rest) (λ _. (l, rest))
 
 answered-lined : {X : Type 0} (r : Result X Refusal) (t : Told) (ts : List Told) (e : ℕ) → All Lined (t ∷ ts) → All Lined (answered r t ts e .1 .telling)
 answered-lined (Ok x) t ts e a = a .1
