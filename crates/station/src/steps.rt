@@ -2,7 +2,7 @@ ghost use mathlib.Core.Path.{_≡_};
 ghost use Rattle.home.specs.PairHome.{wordsOf};
 ghost use Rattle.judge.specs.Judging.{historyOf, roomOf};
 ghost use Rattle.text.specs.Traces.{courseOf};
-ghost use Rattle.station.specs.Verdicts.{accepted as acceptedBy, found as foundBy, taskAnswer, historyAfter, ended as endedBy, endOf, judgedTo, resumed};
+ghost use Rattle.station.specs.Verdicts.{found as foundBy, taskAnswer, historyAfter, ended as endedBy, endOf, judgedTo};
 use crate::task::Task;
 use crate::task::task_of;
 use crate::verdict::Verdict;
