@@ -1,4 +1,6 @@
 // Reads a run from standard input, and prints what a bench answers to each step and whether its reads are legal.
+#![tactic(auto)]
+
 use report::whole::report_on;
 use std::alloc::Global;
 use std::io;

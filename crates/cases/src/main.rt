@@ -1,5 +1,7 @@
 // Runs each run and judges each log that is named on the command line, and compares what comes of it with the text that
 // is stored beside it: of NAME.run and of NAME.log, in NAME.out.
+#![tactic(auto)]
+
 use report::whole::report_on;
 use station::firmware::bench_verdict;
 use std::{env, fs, io};

@@ -1,4 +1,6 @@
 // A walk through the layers, one short scene each: what a station does, and what the parts below then hold.
+#![tactic(auto)]
+
 use std::io;
 
 mod floor;

@@ -1,4 +1,6 @@
 // The homes in use: one generic call at each of them, with what it then promises, and tests of the edges.
+#![tactic(auto)]
+
 ghost use Rattle.std.specs.Prelude.{◌≡◌, replicate};
 ghost use Rattle.home.specs.Words.{read_back};
 ghost use Rattle.home.specs.WordHome.{counted, listed};

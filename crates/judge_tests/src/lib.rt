@@ -1,4 +1,6 @@
 // What the judge answers on the worked examples and on bad input, and that a refused call changes nothing.
+#![tactic(auto)]
+
 pub mod flat;
 pub mod lent;
 #[cfg(test)]

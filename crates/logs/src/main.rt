@@ -1,4 +1,6 @@
 // Judges each log that is named on the command line, as the station firmware does, and prints its name and the number.
+#![tactic(auto)]
+
 use station::firmware::bench_verdict;
 use std::{env, fs, io};
 

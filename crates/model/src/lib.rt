@@ -1,5 +1,7 @@
 // The vocabulary that every other crate speaks: why a call is refused and by which number, what a board does to a
 // cell, and the one search for the newest record of a board and a cell.
+#![tactic(auto)]
+
 pub mod answer;
 pub mod carry;
 pub mod entry;

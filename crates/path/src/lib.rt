@@ -1,4 +1,6 @@
 // What a path is, the path that lands what was started first, and runs of any path.
+#![tactic(auto)]
+
 pub mod first_come;
 pub mod order;
 pub mod path;

@@ -1,4 +1,6 @@
 // What paths do on examples: bad input, full lines, empty paths, and the order of landings.
+#![tactic(auto)]
+
 #[cfg(test)]
 mod tests {
     use model::carry::Carry;

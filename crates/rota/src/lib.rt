@@ -1,2 +1,4 @@
 // The path that lands by turns.
+#![tactic(auto)]
+
 pub mod rota;

@@ -1,5 +1,7 @@
 // The bench as a definition: what it holds, how it opens, and what each step answers and leaves; the laws of every step,
 // and worked cases. specs/ has them.
+#![tactic(auto)]
+
 ghost use Rattle.state.specs.Cases.{BenchCases};
 ghost use Rattle.state.specs.Laws.{StepLaws};
 

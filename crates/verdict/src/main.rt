@@ -1,4 +1,6 @@
 // Reads a log from standard input, and prints the verdict on it: its number, and one sentence for a person.
+#![tactic(auto)]
+
 use station::log::judge_log;
 use std::alloc::Global;
 use std::io;

@@ -3,4 +3,4 @@ use Rattle.home.proofs.Images.{image-length}
 use Rattle.home.proofs.frozen_image.size_of_image.Goals as goal
 
 pub returns : goal.returns
-returns c = (omega (arith, image-length c.args.bytes.now, c.at-most.ensures), omega (arith, c.at-most.ensures))
+returns c = (omega (arith, image-length c.args.bytes.now, c.at_most.ensures), omega (arith, c.at_most.ensures))

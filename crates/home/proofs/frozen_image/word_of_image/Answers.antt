@@ -15,4 +15,4 @@ pub bounds-bytes-at-4 : goal.bounds-bytes-at-4
 bounds-bytes-at-4 c = omega (arith, image-length c.args.bytes.now)
 
 pub returns : goal.returns
-returns c = c.word-of-bytes.ensures ∙ sym (image-at c.args.bytes.now c.args.cell (omega (arith, image-length c.args.bytes.now)))
+returns c = c.word_of_bytes.ensures ∙ sym (image-at c.args.bytes.now c.args.cell (omega (arith, image-length c.args.bytes.now)))

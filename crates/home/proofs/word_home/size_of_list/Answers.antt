@@ -3,4 +3,4 @@ use Rattle.home.proofs.Lists.{counted-length}
 use Rattle.home.proofs.word_home.size_of_list.Goals as goal
 
 pub returns : goal.returns
-returns c = (omega (arith, counted-length c.args.list.now, c.at-most.ensures), omega (arith, c.at-most.ensures))
+returns c = (omega (arith, counted-length c.args.list.now, c.at_most.ensures), omega (arith, c.at_most.ensures))

@@ -1,4 +1,4 @@
-use Rattle.std.proofs.Common.{◌≡◌, ◌≤◌, length, take, sym, ap, ◌∙◌, le_refl, arith}
+use Rattle.std.proofs.Common.{◌≡◌, length, take, sym, ap, ◌∙◌, le_refl, arith}
 use Rattle.std.proofs.lemmas.List.{take_all}
 use Rattle.model.specs.Search.{is_of, last_place}
 use Rattle.model.proofs.Searches.{found, passed}
@@ -13,13 +13,13 @@ loop-i-init g c =
 pub loop-i-preserved : goal.loop-i-preserved
 loop-i-preserved g c =
     let p = is_of g.R.Located.board_of g.R.Located.cell_of c.args.board c.args.cell in
-    sym (passed p c.args.records.now c.loop-i.i c.index-records-i.result (omega (arith, c.loop-i-test.true)) (omega (arith, c.loop-i.auto.i)) c.index-records-i.is (sym c.is-of.ensures ∙ c.if-is-of.false))
+    sym (passed p c.args.records.now c.loop-i.i c.index-records-i.result (omega (arith, c.loop-i-test.true)) (omega (arith, c.loop-i.auto.i)) c.index-records-i.is (sym c.is_of.ensures ∙ c.if-is_of.false))
     ∙ c.loop-i.invariant
 
-pub returns-then-is-of : goal.returns-then-is-of
-returns-then-is-of g c =
+pub returns-then-is_of : goal.returns-then-is_of
+returns-then-is_of g c =
     let p = is_of g.R.Located.board_of g.R.Located.cell_of c.args.board c.args.cell in
-    sym (found p c.args.records.now c.loop-i.i c.index-records-i.result (omega (arith, c.loop-i-test.true)) (omega (arith, c.loop-i.auto.i)) c.index-records-i.is (sym c.is-of.ensures ∙ c.if-is-of.true))
+    sym (found p c.args.records.now c.loop-i.i c.index-records-i.result (omega (arith, c.loop-i-test.true)) (omega (arith, c.loop-i.auto.i)) c.index-records-i.is (sym c.is_of.ensures ∙ c.if-is_of.true))
     ∙ c.loop-i.invariant
 
 pub returns : goal.returns

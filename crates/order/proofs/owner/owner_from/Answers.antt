@@ -10,7 +10,7 @@ pub loop-event-preserved : goal.loop-event-preserved
 loop-event-preserved c =
     let h = c.args.events.now in
     let i = c.loop-event.event-index in
-    ap (λ (o : Option ℕ). owner_from c.args.cell (drop (i + 1) h) o) c.owner-after-owner.ensures
+    ap (λ (o : Option ℕ). owner_from c.args.cell (drop (i + 1) h) o) c.owner_after-owner.ensures
     ∙ sym (at_drop_more (λ (z : List Event). owner_from c.args.cell z c.loop-event.owner) h i _ c.loop-event-test.true)
     ∙ c.loop-event.invariant
 

@@ -27,12 +27,12 @@ returns g c =
     let n = g.P.Path.long in
     let ls = g.P.Path.lines c.args.path.now in
     let ls' = g.P.Path.lines c.loop-i.path in
-    let at-end : c.loop-i.i ≡ length os = omega arith in
+    let at_end : c.loop-i.i ≡ length os = omega arith in
     let run : Run n ls os (take (length os) c.loop-i.replies) ls' =
     subst (λ l. Run n ls l (take (length os) c.loop-i.replies) ls') (take_all (length os) os (omega arith))
-    (subst (λ k. Run n ls (take k os) (take k c.loop-i.replies) ls') at-end c.loop-i.invariant.0) in
+    (subst (λ k. Run n ls (take k os) (take k c.loop-i.replies) ls') at_end c.loop-i.invariant.0) in
     record {
       run = run;
-      rest = subst (λ k. drop k c.loop-i.replies ≡ drop k c.args.replies.now) at-end c.loop-i.invariant.1;
+      rest = subst (λ k. drop k c.loop-i.replies ≡ drop k c.args.replies.now) at_end c.loop-i.invariant.1;
       lanes = in_order (g.met.P.Path.proper c.args.path.now).eight run;
     }

@@ -7,11 +7,11 @@ use Rattle.report.specs.Judged.{noted, first_wrong}
 use Rattle.report.proofs.Loops.{wrong-here, right-here}
 use Rattle.report.proofs.judged.first_from.Goals as goal
 
-pub returns-then-read-wrongly : goal.returns-then-read-wrongly
-returns-then-read-wrongly c =
+pub returns-then-read_wrongly : goal.returns-then-read_wrongly
+returns-then-read_wrongly c =
     let i = c.loop-i.i in
     let answered : i < length c.args.answers.now = omega arith in
-    sym (wrong-here c.args.boards (words_of c.args.home.now) (i + 1) (history_of c.loop-i.judge) c.args.steps.now c.args.answers.now i _ _ c.loop-i-test.true answered c.if-read-wrongly.ensures)
+    sym (wrong-here c.args.boards (words_of c.args.home.now) (i + 1) (history_of c.loop-i.judge) c.args.steps.now c.args.answers.now i _ _ c.loop-i-test.true answered c.if-read_wrongly.ensures)
     ∙ c.loop-i.invariant.1
 
 pub loop-i-preserved : goal.loop-i-preserved
@@ -24,8 +24,8 @@ loop-i-preserved c =
     let answered : i < length answers = omega arith in (
       c.note.ensures.room,
       ap (λ (h : List Event). first_wrong boards words (i + 1 + 1) h (drop (i + 1) steps) (drop (i + 1) answers))
-          (c.note.ensures.history ∙ ap (noted (history_of c.loop-i.judge) boards words) c.event-of.ensures)
-          ∙ sym (right-here boards words (i + 1) (history_of c.loop-i.judge) steps answers i _ _ c.loop-i-test.true answered c.if-read-wrongly.ensures)
+          (c.note.ensures.history ∙ ap (noted (history_of c.loop-i.judge) boards words) c.event_of.ensures)
+          ∙ sym (right-here boards words (i + 1) (history_of c.loop-i.judge) steps answers i _ _ c.loop-i-test.true answered c.if-read_wrongly.ensures)
           ∙ c.loop-i.invariant.1,
     )
 

@@ -8,5 +8,5 @@ pub returns : goal.returns
 returns c =
     let lines = answer_lines 1 c.args.answers.now in
     c.in-ok-add.ensures
-    ∙ ap (λ (out : List ℕ). out ++ (legal_line c.args.wrong ++ 10 ∷ [])) (c.in-ok-add-answers.ensures ∙ ap (λ (out : List ℕ). out ++ text_of lines) c.new-out.ensures.bytes)
+    ∙ ap (λ (out : List ℕ). out ++ (legal_line c.args.wrong ++ 10 ∷ [])) (c.in-ok-add_answers.ensures ∙ ap (λ (out : List ℕ). out ++ text_of lines) c.new-out.ensures.bytes)
     ∙ sym (line-behind lines (legal_line c.args.wrong))

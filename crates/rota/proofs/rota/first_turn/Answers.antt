@@ -8,12 +8,12 @@ use Rattle.rota.proofs.rota.first_turn.Goals as goal
 pub loop-i-preserved : goal.loop-i-preserved
 loop-i-preserved c =
     let p = can_land c.args.turns.now (lines_in c.args.waiting.now) in
-    sym (first-later p c.loop-i.i c.args.to c.loop-i-test.true (sym c.if-has-carry.ensures)) ∙ c.loop-i.invariant
+    sym (first-later p c.loop-i.i c.args.to c.loop-i-test.true (sym c.if-has_carry.ensures)) ∙ c.loop-i.invariant
 
-pub returns-then-has-carry : goal.returns-then-has-carry
-returns-then-has-carry c =
+pub returns-then-has_carry : goal.returns-then-has_carry
+returns-then-has_carry c =
     let p = can_land c.args.turns.now (lines_in c.args.waiting.now) in
-    sym (first-here p c.loop-i.i c.args.to c.loop-i-test.true (sym c.if-has-carry.ensures)) ∙ c.loop-i.invariant
+    sym (first-here p c.loop-i.i c.args.to c.loop-i-test.true (sym c.if-has_carry.ensures)) ∙ c.loop-i.invariant
 
 pub returns : goal.returns
 returns c =

@@ -12,4 +12,4 @@ returns-in-Some c =
 pub returns-in-None : goal.returns-in-None
 returns-in-None c =
     let ts = c.args.turns.now in
-    found-again (can_land ts (lines_in c.args.waiting.now)) (length ts) c.args.turn c.first-turn-in-None.result c.in-None.ensures c.first-turn-in-None.ensures
+    found-again (can_land ts (lines_in c.args.waiting.now)) (length ts) c.args.turn c.first_turn-in-None.result c.in-None.ensures c.first_turn-in-None.ensures

@@ -7,6 +7,6 @@ use Rattle.carries.proofs.table.Table.waiting.Goals as goal
 pub returns : goal.returns
 returns c =
     let b = c.args.board in
-    c.count-of.ensures
+    c.count_of.ensures
     ∙ ap (λ l. length (line_of b l)) c.held.ensures.carries
     ∙ ap length (sym (line-of (held c.args.self.now) b (omega arith)))

@@ -21,7 +21,7 @@ pub returns : goal.returns
 returns g c =
     let s = state_of g.H.Source.words g.P.Path.lines g.P.Path.long c.args.self.now in
     record {
-      step = plain s c.args.board c.args.cell _ _ _ c.in-ok-checked.ensures (ap (acquire s c.args.board c.args.cell) (sym c.owner-owner.ensures) ∙ c.acquire-owned.ensures.step);
-      path = c.acquire-owned.ensures.path;
-      refused = c.acquire-owned.ensures.refused;
+      step = plain s c.args.board c.args.cell _ _ _ c.in-ok-checked.ensures (ap (acquire s c.args.board c.args.cell) (sym c.owner-owner.ensures) ∙ c.acquire_owned.ensures.step);
+      path = c.acquire_owned.ensures.path;
+      refused = c.acquire_owned.ensures.refused;
     }

@@ -17,7 +17,7 @@ pub returns-in-Clean : goal.returns-in-Clean
 returns-in-Clean g c =
     let s = state_of g.H.Source.words g.P.Path.lines g.P.Path.long c.args.self.now in
     record {
-      step = ap (eject s c.args.board c.args.cell) c.in-Clean.is ∙ ap done (sym c.set-entry.ensures.state);
-      path = of_entry g.P.Path.starts g.P.Path.lands c.args.self.now.path _ c.args.board c.args.cell c.in-Clean.is c.set-entry.ensures.path;
+      step = ap (eject s c.args.board c.args.cell) c.in-Clean.is ∙ ap done (sym c.set_entry.ensures.state);
+      path = of_entry g.P.Path.starts g.P.Path.lands c.args.self.now.path _ c.args.board c.args.cell c.in-Clean.is c.set_entry.ensures.path;
       refused = λ e. search rules;
     }

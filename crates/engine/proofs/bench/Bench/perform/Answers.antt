@@ -35,9 +35,9 @@ returns-in-Release g c =
 pub returns-in-WriteBack : goal.returns-in-WriteBack
 returns-in-WriteBack g c =
     let s = state_of g.H.Source.words g.P.Path.lines g.P.Path.long c.args.self.now in
-    performed s _ c.args.step _ (retold s _ c.in-WriteBack.is c.done-in-WriteBack.ensures c.write-back.ensures.step) (sound g.H.Source.words g.P.Path.lines g.P.Path.long c.args.self.now (g.met.P.Path.proper c.args.self.now.path))
-    (same-carries g.P.Path.starts g.P.Path.lands s c.args.self.now.path _ c.in-WriteBack.is c.done-in-WriteBack.ensures c.write-back.ensures.path)
-    (λ e. c.write-back.ensures.refused (refused-done c.write-back.result c.done-in-WriteBack.ensures e))
+    performed s _ c.args.step _ (retold s _ c.in-WriteBack.is c.done-in-WriteBack.ensures c.write_back.ensures.step) (sound g.H.Source.words g.P.Path.lines g.P.Path.long c.args.self.now (g.met.P.Path.proper c.args.self.now.path))
+    (same-carries g.P.Path.starts g.P.Path.lands s c.args.self.now.path _ c.in-WriteBack.is c.done-in-WriteBack.ensures c.write_back.ensures.path)
+    (λ e. c.write_back.ensures.refused (refused-done c.write_back.result c.done-in-WriteBack.ensures e))
 
 pub returns-in-Eject : goal.returns-in-Eject
 returns-in-Eject g c =

@@ -29,14 +29,14 @@ loop-i-preserved g c =
 
 pub returns : goal.returns
 returns g c =
-    let at-end : c.loop-i.i ≡ length c.args.steps.now = omega arith in
-    let course = course-all g.P.Path.starts g.P.Path.lands _ _ _ _ c.args.steps.now c.loop-i.answers c.loop-i.i at-end c.loop-i.invariant.0 in
+    let at_end : c.loop-i.i ≡ length c.args.steps.now = omega arith in
+    let course = course-all g.P.Path.starts g.P.Path.lands _ _ _ _ c.args.steps.now c.loop-i.answers c.loop-i.i at_end c.loop-i.invariant.0 in
     record {
       run =
           record {
             room = c.requires;
             chain = forget-path g.P.Path.starts g.P.Path.lands course;
-            rest = subst (λ n. drop n c.loop-i.answers ≡ drop n c.args.answers.now) at-end c.loop-i.invariant.1;
+            rest = subst (λ n. drop n c.loop-i.answers ≡ drop n c.args.answers.now) at_end c.loop-i.invariant.1;
           };
       path = course;
     }

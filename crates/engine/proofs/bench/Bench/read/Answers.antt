@@ -21,7 +21,7 @@ pub returns : goal.returns
 returns g c =
     let s = state_of g.H.Source.words g.P.Path.lines g.P.Path.long c.args.self.now in
     record {
-      step = through s c.args.board c.args.cell (λ k. read k s c.args.board c.args.cell (entry_in (cache_of s c.args.board) c.args.cell)) _ _ c.in-ok-checked.ensures (c.read-entry.ensures.step.0, ap (read c.read-entry.ensures.step.0 s c.args.board c.args.cell) (sym c.entry-entry.ensures) ∙ c.read-entry.ensures.step.1);
-      path = c.read-entry.ensures.path;
-      refused = c.read-entry.ensures.refused;
+      step = through s c.args.board c.args.cell (λ k. read k s c.args.board c.args.cell (entry_in (cache_of s c.args.board) c.args.cell)) _ _ c.in-ok-checked.ensures (c.read_entry.ensures.step.0, ap (read c.read_entry.ensures.step.0 s c.args.board c.args.cell) (sym c.entry-entry.ensures) ∙ c.read_entry.ensures.step.1);
+      path = c.read_entry.ensures.path;
+      refused = c.read_entry.ensures.refused;
     }

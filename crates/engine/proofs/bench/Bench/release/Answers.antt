@@ -21,7 +21,7 @@ pub returns : goal.returns
 returns g c =
     let s = state_of g.H.Source.words g.P.Path.lines g.P.Path.long c.args.self.now in
     record {
-      step = plain s c.args.board c.args.cell _ _ _ c.in-ok-checked.ensures c.release-cell.ensures.step;
-      path = c.release-cell.ensures.path;
-      refused = c.release-cell.ensures.refused;
+      step = plain s c.args.board c.args.cell _ _ _ c.in-ok-checked.ensures c.release_cell.ensures.step;
+      path = c.release_cell.ensures.path;
+      refused = c.release_cell.ensures.refused;
     }

@@ -38,7 +38,7 @@ returns-in-Err g c =
 pub returns-in-Ok : goal.returns-in-Ok
 returns-in-Ok g c =
     record {
-      step = sent-started (state_of g.H.Source.words g.P.Path.lines g.P.Path.long c.args.self.now) c.args.board c.args.cell c.args.word c.args.entry _ _ c.in-Ok.ensures.answer c.in-Ok.ensures.after c.set-entry.ensures.state;
-      path = subst (λ z. g.P.Path.starts c.args.self.now.path (carry_of c.args.board c.args.cell c.args.word) z) (sym c.set-entry.ensures.path) c.in-Ok.ensures.own;
+      step = sent-started (state_of g.H.Source.words g.P.Path.lines g.P.Path.long c.args.self.now) c.args.board c.args.cell c.args.word c.args.entry _ _ c.in-Ok.ensures.answer c.in-Ok.ensures.after c.set_entry.ensures.state;
+      path = subst (λ z. g.P.Path.starts c.args.self.now.path (carry_of c.args.board c.args.cell c.args.word) z) (sym c.set_entry.ensures.path) c.in-Ok.ensures.own;
       refused = λ e. search rules;
     }

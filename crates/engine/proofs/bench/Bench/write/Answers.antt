@@ -21,7 +21,7 @@ pub returns : goal.returns
 returns g c =
     let s = state_of g.H.Source.words g.P.Path.lines g.P.Path.long c.args.self.now in
     record {
-      step = through s c.args.board c.args.cell (λ k. write k s c.args.board c.args.cell c.args.word (entry_in (cache_of s c.args.board) c.args.cell)) _ _ c.in-ok-checked.ensures (c.write-entry.ensures.step.0, ap (write c.write-entry.ensures.step.0 s c.args.board c.args.cell c.args.word) (sym c.entry-entry.ensures) ∙ c.write-entry.ensures.step.1);
-      path = c.write-entry.ensures.path;
-      refused = c.write-entry.ensures.refused;
+      step = through s c.args.board c.args.cell (λ k. write k s c.args.board c.args.cell c.args.word (entry_in (cache_of s c.args.board) c.args.cell)) _ _ c.in-ok-checked.ensures (c.write_entry.ensures.step.0, ap (write c.write_entry.ensures.step.0 s c.args.board c.args.cell c.args.word) (sym c.entry-entry.ensures) ∙ c.write_entry.ensures.step.1);
+      path = c.write_entry.ensures.path;
+      refused = c.write_entry.ensures.refused;
     }

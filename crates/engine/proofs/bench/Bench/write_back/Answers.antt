@@ -22,7 +22,7 @@ pub returns : goal.returns
 returns g c =
     let s = state_of g.H.Source.words g.P.Path.lines g.P.Path.long c.args.self.now in
     record {
-      step = plain s c.args.board c.args.cell _ _ _ c.in-ok-checked.ensures (ap (write_back s c.args.board c.args.cell) (sym c.entry-entry.ensures) ∙ c.write-back-entry.ensures.step);
-      path = sends g.P.Path.starts g.P.Path.lands s c.args.self.now.path _ c.args.board c.args.cell c.entry-entry.result c.in-ok-checked.ensures c.entry-entry.ensures c.write-back-entry.ensures.path;
-      refused = c.write-back-entry.ensures.refused;
+      step = plain s c.args.board c.args.cell _ _ _ c.in-ok-checked.ensures (ap (write_back s c.args.board c.args.cell) (sym c.entry-entry.ensures) ∙ c.write_back_entry.ensures.step);
+      path = sends g.P.Path.starts g.P.Path.lands s c.args.self.now.path _ c.args.board c.args.cell c.entry-entry.result c.in-ok-checked.ensures c.entry-entry.ensures c.write_back_entry.ensures.path;
+      refused = c.write_back_entry.ensures.refused;
     }

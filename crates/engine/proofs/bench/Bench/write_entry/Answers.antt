@@ -7,16 +7,16 @@ pub returns-in-Invalid : goal.returns-in-Invalid
 returns-in-Invalid g c =
     let s = state_of g.H.Source.words g.P.Path.lines g.P.Path.long c.args.self.now in
     record {
-      step = write-missing s c.args.board c.args.cell c.args.word c.args.entry c.add-dirty.result _ c.in-Invalid.is c.add-dirty.ensures.added;
-      path = c.add-dirty.ensures.path;
-      refused = c.add-dirty.ensures.refused;
+      step = write-missing s c.args.board c.args.cell c.args.word c.args.entry c.add_dirty.result _ c.in-Invalid.is c.add_dirty.ensures.added;
+      path = c.add_dirty.ensures.path;
+      refused = c.add_dirty.ensures.refused;
     }
 
 pub returns-in-default : goal.returns-in-default
 returns-in-default g c =
     let s = state_of g.H.Source.words g.P.Path.lines g.P.Path.long c.args.self.now in
     record {
-      step = write-valid s c.args.board c.args.cell c.args.word c.args.entry _ c.in-default.not-Invalid c.set-entry.ensures.state;
-      path = c.set-entry.ensures.path;
+      step = write-valid s c.args.board c.args.cell c.args.word c.args.entry _ c.in-default.not-Invalid c.set_entry.ensures.state;
+      path = c.set_entry.ensures.path;
       refused = λ e. search rules;
     }

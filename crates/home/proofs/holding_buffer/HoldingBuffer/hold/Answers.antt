@@ -10,10 +10,10 @@ returns g c =
     let cell = c.args.cell in
     let pair = pair_of cell c.args.word in
     let eight : length ps ≡ 8 = search rules in
-    let below = c.send.ensures ∙ ap (λ (i : ℕ). sent ws (get_or ps i None) cell) c.place-of-at.ensures in
-    let held = ap (λ (i : ℕ). set ps i (Some pair)) c.place-of-at.ensures in
+    let below = c.send.ensures ∙ ap (λ (i : ℕ). sent ws (get_or ps i None) cell) c.place_of-at.ensures in
+    let held = ap (λ (i : ℕ). set ps i (Some pair)) c.place_of-at.ensures in
     record {
-      words = ap (λ l. overlay l (set ps c.place-of-at.result (Some pair))) below
+      words = ap (λ l. overlay l (set ps c.place_of-at.result (Some pair))) below
           ∙ ap (overlay (sent ws (get_or ps (cell % 8) None) cell)) held
           ∙ overlay-put ws ps cell c.args.word (subst (λ n. cell < n) (overlay-length ws ps) c.requires) eight (c.args.self.now.own (cell % 8) (omega arith));
       below = below;

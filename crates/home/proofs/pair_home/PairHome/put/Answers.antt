@@ -19,20 +19,20 @@ room h ps cell j p e q =
     place_room h.cells h.count h.table cell 0 j h.long h.few h.room h.inside h.once (has h cell p) (goes h ps cell j e q)
 
 pub offset-bounds-self-at : goal.offset-bounds-self-at
-offset-bounds-self-at c = omega (arith, room c.args.self.now c.pairs.result.now c.args.cell c.place-of-at.result c.requires c.place-of-at.ensures c.pairs.ensures)
+offset-bounds-self-at c = omega (arith, room c.args.self.now c.pairs.result.now c.args.cell c.place_of-at.result c.requires c.place_of-at.ensures c.pairs.ensures)
 
 pub bounds-self-at : goal.bounds-self-at
-bounds-self-at c = room c.args.self.now c.pairs.result.now c.args.cell c.place-of-at.result c.requires c.place-of-at.ensures c.pairs.ensures
+bounds-self-at c = room c.args.self.now c.pairs.result.now c.args.cell c.place_of-at.result c.requires c.place_of-at.ensures c.pairs.ensures
 
 pub overflow-add-at : goal.overflow-add-at
-overflow-add-at c = omega (arith, room c.args.self.now c.pairs.result.now c.args.cell c.place-of-at.result c.requires c.place-of-at.ensures c.pairs.ensures)
+overflow-add-at c = omega (arith, room c.args.self.now c.pairs.result.now c.args.cell c.place_of-at.result c.requires c.place_of-at.ensures c.pairs.ensures)
 
 pub invariant-of-self : goal.invariant-of-self
 invariant-of-self c =
     let h = c.args.self.now in
-    let j = c.place-of-at.result in
+    let j = c.place_of-at.result in
     let c-in = has h c.args.cell c.requires in
-    let at = goes h c.pairs.result.now c.args.cell j c.place-of-at.ensures c.pairs.ensures in (
+    let at = goes h c.pairs.result.now c.args.cell j c.place_of-at.ensures c.pairs.ensures in (
       rw (length-set h.table j (pair c.args.cell c.args.word)) h.long,
       (
         h.few,
@@ -49,8 +49,8 @@ invariant-of-self c =
 pub returns : goal.returns
 returns c =
     let h = c.args.self.now in
-    let j = c.place-of-at.result in
+    let j = c.place_of-at.result in
     let c-in = has h c.args.cell c.requires in
-    let at = goes h c.pairs.result.now c.args.cell j c.place-of-at.ensures c.pairs.ensures in
+    let at = goes h c.pairs.result.now c.args.cell j c.place_of-at.ensures c.pairs.ensures in
     words-put h.cells h.start (take h.count h.table) _ c.args.cell c.args.word c-in
     (puts_after h.cells h.count h.table c.args.cell c.args.word j h.long h.few h.room h.inside h.once c-in at c.max-self.result c.max-self.ensures)

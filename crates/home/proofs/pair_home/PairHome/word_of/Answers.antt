@@ -8,9 +8,9 @@ returns-then-at-pairs c =
     let h = c.args.self.now in
     let ps = c.pairs-pairs.result.now in
     let qs = take h.count h.table in
-    let f = found ps c.args.cell (omega (arith, c.place-of-at.ensures, c.if-at-pairs.true)) in
+    let f = found ps c.args.cell (omega (arith, c.place_of-at.ensures, c.if-at-pairs.true)) in
     let long = words-length h.cells h.start qs in
-    ap (λ i. (get_or ps i blank).word) c.place-of-at.ensures
+    ap (λ i. (get_or ps i blank).word) c.place_of-at.ensures
     ∙ sym (words-at h.cells h.start qs c.args.cell (omega (arith, c.requires))
     ∙ ap (λ l. unwrap_or (word_in l c.args.cell) h.start) (sym c.pairs-pairs.ensures)
     ∙ ap (λ o. unwrap_or o h.start) f.word)
@@ -23,4 +23,4 @@ returns-else-at-pairs c =
     let long = words-length h.cells h.start qs in
     sym (words-at h.cells h.start qs c.args.cell (omega (arith, c.requires))
     ∙ ap (λ l. unwrap_or (word_in l c.args.cell) h.start) (sym c.pairs-pairs.ensures)
-    ∙ ap (λ o. unwrap_or o h.start) (missing ps c.args.cell (omega (arith, c.place-of-at.ensures, c.if-at-pairs.false))))
+    ∙ ap (λ o. unwrap_or o h.start) (missing ps c.args.cell (omega (arith, c.place_of-at.ensures, c.if-at-pairs.false))))

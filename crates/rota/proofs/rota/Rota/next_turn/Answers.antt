@@ -11,6 +11,6 @@ returns c =
     let p = c.args.self.now in
     let ls = lines_in p.waiting in
     record {
-      value = c.turn-to-land.ensures;
-      served = subst (Served fixed_turns ls) (sym c.turn-to-land.ensures) (served-by fixed_turns every-fixed ls (lines-length (held p.waiting)) p.turn (turn_to_land fixed_turns ls p.turn) (first_round (can_land fixed_turns ls) 16 p.turn p.within));
+      value = c.turn_to_land.ensures;
+      served = subst (Served fixed_turns ls) (sym c.turn_to_land.ensures) (served-by fixed_turns every-fixed ls (lines-length (held p.waiting)) p.turn (turn_to_land fixed_turns ls p.turn) (first_round (can_land fixed_turns ls) 16 p.turn p.within));
     }

@@ -11,8 +11,8 @@ same p q w t = one_follows the_type p q (cc)
 pub returns : goal.returns
 returns c =
     record {
-      answer = c.start-in.ensures.answer;
-      after = c.start-in.ensures.after;
-      own = (c.start-in.ensures.after, refl);
-      refused = λ e. same _ _ (c.start-in.ensures.refused e) refl;
+      answer = c.start_in.ensures.answer;
+      after = c.start_in.ensures.after;
+      own = (c.start_in.ensures.after, refl);
+      refused = λ e. same _ _ (c.start_in.ensures.refused e) refl;
     }
