@@ -21,8 +21,8 @@ pub trait Source {
 // A home is the memory that a bench works on: a source that can also be written.
 pub trait Home: Source {
     fn write(&mut self, cell: u32, word: u32) -> Result<(), Refusal>
-        ensures answer { result ≡ write_at (words self.old) cell }
-        ensures after { words self.new ≡ written (words self.old) cell word };
+        ensures answer { result ≡ write_at (Self.words self.old) cell }
+        ensures after { Self.words self.new ≡ written (Self.words self.old) cell word };
 }
 
 // How many of the words that are at hand count.

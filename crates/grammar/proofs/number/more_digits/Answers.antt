@@ -8,15 +8,15 @@ pub returns-then-not-is_ascii_digit : goal.returns-then-not-is_ascii_digit
 returns-then-not-is_ascii_digit c =
     at_other _ _ c.args.s.now c.loop-i-test.true c.if-not-is_ascii_digit.ensures.value ∙ c.loop-i.invariant.1
 
-pub returns-then-m-gt-LARGEST-WORD : goal.returns-then-m-gt-LARGEST-WORD
-returns-then-m-gt-LARGEST-WORD c =
-    too_large _ _ _ c.args.s.now c.loop-i-test.true c.from.ensures c.if-not-is_ascii_digit.ensures.value c.if-m-gt-LARGEST-WORD.true
+pub returns-then-m-gt-LARGEST_WORD : goal.returns-then-m-gt-LARGEST_WORD
+returns-then-m-gt-LARGEST_WORD c =
+    too_large _ _ _ c.args.s.now c.loop-i-test.true c.from.ensures c.if-not-is_ascii_digit.ensures.value c.if-m-gt-LARGEST_WORD.true
     ∙ c.loop-i.invariant.1
 
 pub loop-i-preserved : goal.loop-i-preserved
 loop-i-preserved c = (
-  c.if-m-gt-LARGEST-WORD.false,
-  one_more _ _ _ c.args.s.now c.loop-i-test.true c.from.ensures c.if-not-is_ascii_digit.ensures.value c.if-m-gt-LARGEST-WORD.false
+  c.if-m-gt-LARGEST_WORD.false,
+  one_more _ _ _ c.args.s.now c.loop-i-test.true c.from.ensures c.if-not-is_ascii_digit.ensures.value c.if-m-gt-LARGEST_WORD.false
       ∙ c.loop-i.invariant.1,
 )
 

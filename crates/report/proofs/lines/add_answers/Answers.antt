@@ -8,7 +8,7 @@ use Rattle.report.proofs.lines.add_answers.Goals as goal
 pub loop-i-preserved : goal.loop-i-preserved
 loop-i-preserved c =
     let i = c.loop-i.i in
-    ap (λ (out : List ℕ). out ++ text_of (answer_lines (i + 1 + 1) (drop (i + 1) c.args.answers.now))) c.in-ok-add.ensures
+    ap (λ (out : List ℕ). out ++ text_of (answer_lines (i + 1 + 1) (drop (i + 1) c.args.answers.now))) c.in_ok-add.ensures
     ∙ line-more (string_bytes c.loop-i.out) (i + 1) c.args.answers.now i _ c.loop-i-test.true
     ∙ c.loop-i.invariant
 

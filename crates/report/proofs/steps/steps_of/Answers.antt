@@ -14,7 +14,7 @@ loop-step-smaller c =
 pub loop-step-preserved : goal.loop-step-preserved
 loop-step-preserved c =
     let ys = steps_of (course_of c.next_step.new.trace).steps in
-    ap (λ (items : List Step). items ++ ys) c.in-ok-push.ensures.items
+    ap (λ (items : List Step). items ++ ys) c.in_ok-push.ensures.items
     ∙ step-more (vec_items c.loop-step.steps) (steps_of (course_of c.loop-step.trace).steps) ys _ c.in-Some.ensures.step c.in-Some.ensures.rest
     ∙ c.loop-step.invariant
 
@@ -22,6 +22,6 @@ pub returns : goal.returns
 returns c =
     let items = vec_items c.loop-step.steps in
     sym (append-nil items)
-    ∙ ap (λ (xs : List Step). items ++ xs) (sym (none_left (steps_of (course_of c.loop-step.trace).steps) c.in-default.ensures.step))
+    ∙ ap (λ (xs : List Step). items ++ xs) (sym (none_left (steps_of (course_of c.loop-step.trace).steps) c.in_default.ensures.step))
     ∙ c.loop-step.invariant
     ∙ ap (λ (k : Course). steps_of k.steps) c.open-trace.ensures.course

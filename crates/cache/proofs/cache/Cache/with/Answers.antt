@@ -4,8 +4,8 @@ use Rattle.cache.specs.Places.{Distinct, place_for}
 use Rattle.cache.proofs.Looks.{stored, stored-distinct}
 use Rattle.cache.proofs.cache.Cache.with.Goals as goal
 
-pub invariant-of-result : goal.invariant-of-result
-invariant-of-result c =
+pub invariant_of-result : goal.invariant_of-result
+invariant_of-result c =
     let ps = c.args.self.places.at in
     let after = c.put.ensures ∙ ap (set ps c.args.at) c.new.ensures in (
       ap length after ∙ length-set ps c.args.at (place_for c.args.cell c.args.entry) ∙ c.args.self.eight,

@@ -9,8 +9,8 @@ use Rattle.carries.proofs.table.Table.newest_of.Goals as goal
 pub bounds-carries-place : goal.bounds-carries-place
 bounds-carries-place c = place_in (of_lane c.args.board c.args.cell) c.held-carries.result.now c.in-Some.place c.in-Some.ensures
 
-pub offset-bounds-carries-place : goal.offset-bounds-carries-place
-offset-bounds-carries-place c =
+pub offset_bounds-carries-place : goal.offset_bounds-carries-place
+offset_bounds-carries-place c =
     omega (arith, place_in (of_lane c.args.board c.args.cell) c.held-carries.result.now c.in-Some.place c.in-Some.ensures, c.held-carries.ensures.few)
 
 pub returns-in-None : goal.returns-in-None

@@ -9,8 +9,8 @@ use Rattle.carries.proofs.table.Table.push.Goals as goal
 pub bounds-self-self : goal.bounds-self-self
 bounds-self-self c = has_room c.args.self.now c.args.carry c.requires.board c.requires.room
 
-pub invariant-of-self : goal.invariant-of-self
-invariant-of-self c =
+pub invariant_of-self : goal.invariant_of-self
+invariant_of-self c =
     let t = c.args.self.now in
     let x = c.args.carry in
     let less = has_room t x c.requires.board c.requires.room in (

@@ -8,8 +8,8 @@ use Rattle.carries.proofs.ByBoard.{located-removed, short-removed, head-oldest, 
 use Rattle.carries.proofs.Rows.{left, read}
 use Rattle.carries.proofs.table.Table.remove.Goals as goal
 
-pub invariant-of-self : goal.invariant-of-self
-invariant-of-self c =
+pub invariant_of-self : goal.invariant_of-self
+invariant_of-self c =
     let t = c.args.self.now in
     let i = c.args.place in
     let xs = held t in

@@ -8,13 +8,13 @@ use Rattle.engine.proofs.Carried.{stays, sends}
 use Rattle.engine.proofs.Ways.{refused, through, plain}
 use Rattle.engine.proofs.bench.Bench.write_back.Goals as goal
 
-pub returns-in-err-checked : goal.returns-in-err-checked
-returns-in-err-checked g c =
+pub returns-in_err-checked : goal.returns-in_err-checked
+returns-in_err-checked g c =
     let s = state_of g.H.Source.words g.P.Path.lines g.P.Path.long c.args.self.now in
     let p = err_from_is_err_and c.from-residual.result c.from-residual.ensures.1 in
     record {
-      step = rw (p.1, p.2) (refused s c.args.board c.args.cell (λ k. write_back s c.args.board c.args.cell (entry_in (cache_of s c.args.board) c.args.cell)) c.in-err-checked.field-0.0 c.in-err-checked.ensures);
-      path = stays g.P.Path.starts g.P.Path.lands s c.args.self.now.path _ c.args.board c.args.cell c.in-err-checked.field-0.0 c.in-err-checked.ensures refl;
+      step = rw (p.1, p.2) (refused s c.args.board c.args.cell (λ k. write_back s c.args.board c.args.cell (entry_in (cache_of s c.args.board) c.args.cell)) c.in_err-checked.field-0.0 c.in_err-checked.ensures);
+      path = stays g.P.Path.starts g.P.Path.lands s c.args.self.now.path _ c.args.board c.args.cell c.in_err-checked.field-0.0 c.in_err-checked.ensures refl;
       refused = λ _. refl {a = c.args.self.now};
     }
 
@@ -22,7 +22,7 @@ pub returns : goal.returns
 returns g c =
     let s = state_of g.H.Source.words g.P.Path.lines g.P.Path.long c.args.self.now in
     record {
-      step = plain s c.args.board c.args.cell _ _ _ c.in-ok-checked.ensures (ap (write_back s c.args.board c.args.cell) (sym c.entry-entry.ensures) ∙ c.write_back_entry.ensures.step);
-      path = sends g.P.Path.starts g.P.Path.lands s c.args.self.now.path _ c.args.board c.args.cell c.entry-entry.result c.in-ok-checked.ensures c.entry-entry.ensures c.write_back_entry.ensures.path;
+      step = plain s c.args.board c.args.cell _ _ _ c.in_ok-checked.ensures (ap (write_back s c.args.board c.args.cell) (sym c.entry-entry.ensures) ∙ c.write_back_entry.ensures.step);
+      path = sends g.P.Path.starts g.P.Path.lands s c.args.self.now.path _ c.args.board c.args.cell c.entry-entry.result c.in_ok-checked.ensures c.entry-entry.ensures c.write_back_entry.ensures.path;
       refused = c.write_back_entry.ensures.refused;
     }

@@ -12,11 +12,11 @@ returns-in-Invalid g c =
       refused = c.add_dirty.ensures.refused;
     }
 
-pub returns-in-default : goal.returns-in-default
-returns-in-default g c =
+pub returns-in_default : goal.returns-in_default
+returns-in_default g c =
     let s = state_of g.H.Source.words g.P.Path.lines g.P.Path.long c.args.self.now in
     record {
-      step = write-valid s c.args.board c.args.cell c.args.word c.args.entry _ c.in-default.not-Invalid c.set_entry.ensures.state;
+      step = write-valid s c.args.board c.args.cell c.args.word c.args.entry _ c.in_default.not-Invalid c.set_entry.ensures.state;
       path = c.set_entry.ensures.path;
       refused = λ e. search rules;
     }

@@ -18,17 +18,17 @@ room : (h : PairHome) (ps : List Pair) (cell j : ℕ) → cell < length (words_o
 room h ps cell j p e q =
     place_room h.cells h.count h.table cell 0 j h.long h.few h.room h.inside h.once (has h cell p) (goes h ps cell j e q)
 
-pub offset-bounds-self-at : goal.offset-bounds-self-at
-offset-bounds-self-at c = omega (arith, room c.args.self.now c.pairs.result.now c.args.cell c.place_of-at.result c.requires c.place_of-at.ensures c.pairs.ensures)
+pub offset_bounds-self-at : goal.offset_bounds-self-at
+offset_bounds-self-at c = omega (arith, room c.args.self.now c.pairs.result.now c.args.cell c.place_of-at.result c.requires c.place_of-at.ensures c.pairs.ensures)
 
 pub bounds-self-at : goal.bounds-self-at
 bounds-self-at c = room c.args.self.now c.pairs.result.now c.args.cell c.place_of-at.result c.requires c.place_of-at.ensures c.pairs.ensures
 
-pub overflow-add-at : goal.overflow-add-at
-overflow-add-at c = omega (arith, room c.args.self.now c.pairs.result.now c.args.cell c.place_of-at.result c.requires c.place_of-at.ensures c.pairs.ensures)
+pub overflow_add-at : goal.overflow_add-at
+overflow_add-at c = omega (arith, room c.args.self.now c.pairs.result.now c.args.cell c.place_of-at.result c.requires c.place_of-at.ensures c.pairs.ensures)
 
-pub invariant-of-self : goal.invariant-of-self
-invariant-of-self c =
+pub invariant_of-self : goal.invariant_of-self
+invariant_of-self c =
     let h = c.args.self.now in
     let j = c.place_of-at.result in
     let c-in = has h c.args.cell c.requires in

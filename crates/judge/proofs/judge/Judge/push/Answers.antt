@@ -4,8 +4,8 @@ use Rattle.order.specs.Test.{on_boards}
 use Rattle.order.proofs.Tests.{boards-more}
 use Rattle.judge.proofs.judge.Judge.push.Goals as goal
 
-pub invariant-of-self : goal.invariant-of-self
-invariant-of-self c =
+pub invariant_of-self : goal.invariant_of-self
+invariant_of-self c =
     let list = c.args.self.now.list.now in
     let i = c.args.self.now.noted in
     let e = c.args.event in
