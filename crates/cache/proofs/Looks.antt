@@ -1,5 +1,5 @@
 -- Where a cell stands, whichever place is looked at first; and where an entry may be stored.
-use Rattle.std.proofs.Common.{◌≡◌, ℕ, zero, suc, ◌+◌, ◌<◌, Bool, true, false, cond, ◌||◌, eqb, ltb, List, [], ◌∷◌, length, get_or, drop, set, Some, None, Option, sym, refl, ap, ◌∙◌, subst, ⊎_elim, arith}
+use Rattle.std.proofs.Common.{◌≡◌, ℕ, zero, suc, ◌+◌, ◌<◌, true, false, cond, ◌||◌, ltb, List, [], ◌∷◌, length, get_or, drop, set, Some, None, Option, sym, refl, ap, ◌∙◌, ⊎_elim, arith}
 use Rattle.std.proofs.lemmas.List.{at_drop_more}
 use Rattle.std.proofs.lemmas.Bool.{cases_Bool, cond-true, cond-false, or_left, or_right, or_parts, and_parts, both_ways}
 use Rattle.std.proofs.lemmas.List.Sums.{sum_by-cons}
@@ -8,7 +8,7 @@ use Rattle.model.specs.declared.entry.Entry.{Entry}
 use Rattle.cache.specs.Places.{holds, is_taken, entry_of, place_for, entry_in, stands_in, taken_in, replace_in, vacant, store_in, clash, Distinct, Found, Vacant, OfferedAt, Offered}
 use Rattle.cache.proofs.Distinct.{both-clash, Fits, distinct-set, distinct-rest}
 use Rattle.cache.specs.declared.place.Place.{Place}
-use Rattle.cache.specs.declared.place.Place.TheVariants.{Empty, Clean, Dirty}
+use Rattle.cache.specs.declared.place.Place.TheVariants.{Empty}
 
 pub all-taken : (ps : List Place) → ((i : ℕ) → i < length ps → is_taken (get_or ps i Empty) ≡ true) → taken_in ps ≡ length ps
 all-taken [] h = refl

@@ -1,5 +1,5 @@
 -- What the eight places of a cache hold.
-use Rattle.std.specs.Prelude.{◌≡◌, ℕ, suc, ◌<◌, Bool, true, false, cond, not, ◌&&◌, ◌||◌, List, [], ◌∷◌, length, Some, None, count_by, Option, ◌==◌, nat_lt, slice_index_or, slice_set}
+use Rattle.std.specs.Prelude.{◌≡◌, ℕ, ◌<◌, Bool, true, false, cond, not, ◌&&◌, ◌||◌, List, [], ◌∷◌, length, Some, None, count_by, Option, ◌==◌, nat_lt, slice_index_or, slice_set}
 use Rattle.model.specs.declared.entry.Entry.{Entry}
 use Rattle.cache.specs.declared.place.Place.{Place}
 

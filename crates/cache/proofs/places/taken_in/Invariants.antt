@@ -1,4 +1,4 @@
-use Rattle.std.proofs.Common.{◌≡◌, ℕ, ◌≤◌, take}
+use Rattle.std.proofs.Common.{◌≡◌, ◌≤◌, take}
 use Rattle.cache.specs.Places.{taken_in}
 use Rattle.cache.proofs.places.taken_in.Given as goal
 
