@@ -6,7 +6,7 @@ use Rattle.model.specs.declared.refusal.Refusal.TheVariants.{TextTooLong}
 use Rattle.grammar.specs.declared.kind.Kind.{Kind}
 use Rattle.grammar.specs.declared.trace_step.TraceStep.{TraceStep}
 use Rattle.grammar.specs.Numbers.{and_then}
-use Rattle.grammar.specs.Pieces.{Piece, piece, is_remark}
+use Rattle.grammar.specs.Pieces.{Piece, is_remark}
 use Rattle.grammar.specs.Steps.{room, step_in, step_said}
 use Rattle.text.specs.declared.reader.Reader.{Reader}
 use Rattle.text.specs.Course.{further, onward, course}
