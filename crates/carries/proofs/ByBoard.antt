@@ -1,6 +1,6 @@
 -- Carries of all boards in the order started: the eight lines that they make, with one more and with one less.
 use Rattle.std.proofs.Common.{◌≡◌, ℕ, zero, suc, ◌+◌, ◌*◌, ◌<◌, ◌≤◌, true, false, cond, ◌&&◌, eqb, ltb, ◌≢◌, List, [], ◌∷◌, ◌++◌, length, get_or, take, drop, set, Some, None, filter, sym, refl, ap, ◌∙◌, subst, ⊎_elim, add-one, arith}
-use Rattle.std.specs.List.{remove, AllByRecursion as All}
+use Rattle.std.specs.List.{remove, AllByRecursion}
 use Rattle.std.proofs.lemmas.List.{get_or_default, set-get_or, length-set, get_or-set_same, get_or-set_other, ext_get_or, length_push, append-nil, take-append-drop, drop_more, get_or_past}
 use Rattle.std.proofs.lemmas.List.Elements.{filter-append}
 use Rattle.std.proofs.lemmas.List.FromFn.{length-map-range_with_len, get_or-map-range_with_len}
@@ -236,13 +236,13 @@ lane-line b c (x ∷ xs) =
     ∙ sym (cond-false (of_lane b c x) (x ∷ filter (of_lane b c) xs) (filter (of_lane b c) xs) (and_left (eqb x.board b) (eqb x.cell c) e)))
     (cases_Bool (eqb x.board b))
 
-own : (b : ℕ) (xs : List Carry) → located xs ≡ true → All (λ x. (x.board ≡ b) × (x.cell ≤ 63)) (line_of b xs)
+own : (b : ℕ) (xs : List Carry) → located xs ≡ true → AllByRecursion (λ x. (x.board ≡ b) × (x.cell ≤ 63)) (line_of b xs)
 own b [] l = tt
 own b (x ∷ xs) l =
     let P : Carry → Type 0 = λ x. (x.board ≡ b) × (x.cell ≤ 63) in
     let parts = and_parts (ltb x.board 8 && ltb x.cell 64) (located xs) l in
     let cell : x.cell < 64 = ltb-true x.cell 64 (and_parts (ltb x.board 8) (ltb x.cell 64) parts.0).1 in
-    cond_both (eqb x.board b) (x ∷ line_of b xs) (line_of b xs) (All P)
+    cond_both (eqb x.board b) (x ∷ line_of b xs) (line_of b xs) (AllByRecursion P)
     (λ e. ((eqb-true x.board b e, omega arith), own b xs parts.1))
     (λ _. own b xs parts.1)
 
@@ -252,8 +252,8 @@ proper n xs l s =
       eight = lines-length xs;
       own = λ b.
           ⊎_elim
-          (λ (h : b < 8). subst (All (λ x. (x.board ≡ b) × (x.cell ≤ 63))) (sym (line-of xs b h)) (own b xs l))
-          (λ (h : 8 ≤ b). subst (All (λ x. (x.board ≡ b) × (x.cell ≤ 63))) (sym (line-past xs b h)) tt)
+          (λ (h : b < 8). subst (AllByRecursion (λ x. (x.board ≡ b) × (x.cell ≤ 63))) (sym (line-of xs b h)) (own b xs l))
+          (λ (h : 8 ≤ b). subst (AllByRecursion (λ x. (x.board ≡ b) × (x.cell ≤ 63))) (sym (line-past xs b h)) tt)
           (cases_lt b 8);
       short = λ b.
           ⊎_elim

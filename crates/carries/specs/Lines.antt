@@ -1,6 +1,6 @@
 -- The meaning of a path: eight lines of carries, one for each board, and what each call answers and leaves of them.
 use Rattle.std.specs.Prelude.{◌≡◌, ℕ, ◌≤◌, Bool, cond, List, [], ◌∷◌, ◌++◌, length, Some, None, Ok, Err, filter, Option, Result, nat_lt, slice_index_or, slice_set}
-use Rattle.std.specs.List.{last_or, AllByRecursion as All, slice_get}
+use Rattle.std.specs.List.{last_or, AllByRecursion, slice_get}
 use Rattle.model.specs.Search.{is_of}
 use Rattle.model.specs.declared.carry.Carry.{Carry}
 use Rattle.model.specs.declared.refusal.Refusal.{Refusal}
@@ -67,5 +67,5 @@ Landed ls (Some x) ls' =
 -- only and of cells that exist, and none has more than n.
 pub record Proper (n : ℕ) (ls : List (List Carry)) : Type 0 where
   pub eight : length ls ≡ 8
-  pub own : (b : ℕ) → All (λ x. (x.board ≡ b) × (x.cell ≤ 63)) (line ls b)
+  pub own : (b : ℕ) → AllByRecursion (λ x. (x.board ≡ b) × (x.cell ≤ 63)) (line ls b)
   pub short : (b : ℕ) → length (line ls b) ≤ n

@@ -30,6 +30,8 @@ impl FirstCome {
 impl Path for FirstCome {
     const LENGTH: u32 = 8;
 
+    ghost LENGTH = { 8 };
+
     ghost long = { 8 };
 
     ghost lines = { λ p. lines_in p.waiting };
@@ -44,7 +46,7 @@ impl Path for FirstCome {
 
     fn capacity() -> u32
         ensures value { result ≡ 8 }
-        ensures* constant { do ⌜ result ≡ (← (⟦Self::LENGTH⟧).entry) ⌝ }
+        ensures constant { result ≡ ⟦<Self as Path>⟧.LENGTH }
     {
         Self::LENGTH
     }

@@ -2,6 +2,7 @@ ghost use Rattle.std.specs.Prelude.{◌≡◌, ℕ, ◌≤◌, false, List, is_s
 ghost use Rattle.model.specs.declared.carry.Carry.{Carry};
 ghost use Rattle.carries.specs.Lines.{start_at, started, newest_at, count_at, Landed, Proper};
 
+pub use carries::limits::{BOARDS, CELLS, LONGEST_LINE};
 use model::carry::Carry;
 use model::refusal::Refusal;
 
@@ -12,7 +13,10 @@ pub trait Path {
     // How many carries a line holds at most: with so many, the next is refused.
     const LENGTH: u32;
 
-    // The same number for the contracts, which cannot name the constant.
+    // The constant, as clauses name it.
+    ghost LENGTH: { ℕ };
+
+    // The same number, by which the contracts speak of it.
     ghost long: { ℕ };
 
     // The eight lines, by board.

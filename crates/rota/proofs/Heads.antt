@@ -1,7 +1,7 @@
 -- A carry at the head of its line comes nearer with every landing.
 use Rattle.std.proofs.Common.{◌≡◌, ℕ, zero, suc, ◌+◌, ◌<◌, ◌≤◌, true, false, List, [], ◌∷◌, ◌++◌, length, get_or, take, drop, set, Some, None, Ok, Err, Option, Result, sym, refl, ap, ◌∙◌, subst, ⊎_elim, arith}
 use Rattle.std.specs.Option.{option_to_list}
-use Rattle.std.specs.List.{AllByRecursion as All}
+use Rattle.std.specs.List.{AllByRecursion}
 use Rattle.std.proofs.ByRecursion.{All-push, All-weaker, All-drop}
 use Rattle.std.proofs.lemmas.List.{length-set, get_or-set_same, get_or-set_other, get_or_past}
 use Rattle.std.proofs.lemmas.Bool.{cases_eq, cases_lt, both_ways, false≢true}
@@ -19,10 +19,10 @@ use Rattle.rota.proofs.Rounds.{passed, passed-most, passed-same, after_turn, Fir
 -- eight lines, each with carries of its own board only
 record Own (ls : List (List Carry)) : Type 0 where
   eight : length ls ≡ 8
-  own : (b : ℕ) → All (λ x. x.board ≡ b) (line ls b)
+  own : (b : ℕ) → AllByRecursion (λ x. x.board ≡ b) (line ls b)
 
 -- the line of board k has become l
-own-set : (ls : List (List Carry)) (k : ℕ) (l : List Carry) → Own ls → All (λ x. x.board ≡ k) l → Own (set ls k l)
+own-set : (ls : List (List Carry)) (k : ℕ) (l : List Carry) → Own ls → AllByRecursion (λ x. x.board ≡ k) l → Own (set ls k l)
 own-set ls k l o all =
     record {
       eight = length-set ls k l ∙ o.eight;
@@ -30,12 +30,12 @@ own-set ls k l o all =
           ⊎_elim
           (λ (e : b ≡ k).
           ⊎_elim
-          (λ (h : k < length ls). subst (λ b. All (λ x. x.board ≡ b) (line (set ls k l) b)) (sym e) (subst (All (λ x. x.board ≡ k)) (sym (get_or-set_same ls k l [] h)) all))
+          (λ (h : k < length ls). subst (λ b. AllByRecursion (λ x. x.board ≡ b) (line (set ls k l) b)) (sym e) (subst (AllByRecursion (λ x. x.board ≡ k)) (sym (get_or-set_same ls k l [] h)) all))
           (λ (h : length ls ≤ k).
-          subst (λ b. All (λ x. x.board ≡ b) (line (set ls k l) b)) (sym e)
-          (subst (All (λ x. x.board ≡ k)) (sym (get_or_past (set ls k l) k [] (omega (arith, length-set ls k l)))) tt))
+          subst (λ b. AllByRecursion (λ x. x.board ≡ b) (line (set ls k l) b)) (sym e)
+          (subst (AllByRecursion (λ x. x.board ≡ k)) (sym (get_or_past (set ls k l) k [] (omega (arith, length-set ls k l)))) tt))
           (cases_lt k (length ls)))
-          (λ (ne : b ≡ k → ⊥). subst (All (λ x. x.board ≡ b)) (sym (get_or-set_other ls k b l [] ne)) (o.own b))
+          (λ (ne : b ≡ k → ⊥). subst (AllByRecursion (λ x. x.board ≡ b)) (sym (get_or-set_other ls k b l [] ne)) (o.own b))
           (cases_eq b k);
     }
 
@@ -87,7 +87,7 @@ module _ (ts : List ℕ) (n b : ℕ) (x : Carry) (j : ℕ) (j-in : j < length ts
     -- turn i lands y
     module _ (i : ℕ) (i-in : i < length ts) (first : passed (length ts) t i ≤ passed (length ts) t j) (y : Carry) (ys : List Carry) (heads : line ls (get_or ts i 0) ≡ y ∷ ys) where
       y-board : y.board ≡ get_or ts i 0
-      y-board = (subst (All (λ z. z.board ≡ get_or ts i 0)) heads (o.own (get_or ts i 0))).0
+      y-board = (subst (AllByRecursion (λ z. z.board ≡ get_or ts i 0)) heads (o.own (get_or ts i 0))).0
 
       abbrev rest : List Carry
       rest = landings ts n (set ls (get_or ts i 0) (drop 1 (line ls (get_or ts i 0)))) (turn_after ts i) os

@@ -13,19 +13,13 @@ pub invariant_of-self : goal.invariant_of-self
 invariant_of-self c =
     let t = c.args.self.now in
     let x = c.args.carry in
-    let less = has_room t x c.requires.board c.requires.room in (
-      length-set t.carries t.used x ∙ t.room,
-      (
-        omega arith,
-        (
-          put-located t x c.requires.board c.requires.room c.requires.cell,
-          (
-            put-short t x c.requires.board c.requires.room,
-            tt,
-          ),
-        ),
-      ),
-    )
+    let less = has_room t x c.requires.board c.requires.room in
+    record {
+      room = length-set t.carries t.used x ∙ t.room;
+      within = omega arith;
+      located = put-located t x c.requires.board c.requires.room c.requires.cell;
+      short = put-short t x c.requires.board c.requires.room;
+    }
 
 pub returns : goal.returns
 returns c =

@@ -15,19 +15,13 @@ invariant_of-self c =
     let xs = held t in
     let x = get_or t.carries i blank in
     let rest = left t i c.close.new.carries c.requires.within c.close.ensures in
-    let is = read t i c.close.new.carries c.requires.within c.close.ensures in (
-      c.close.auto.carries ∙ t.room,
-      (
-        omega arith,
-        (
-          ap located rest ∙ located-removed xs i x c.requires.within is t.located,
-          (
-            subst (Short 8) (sym rest) (short-removed xs i x c.requires.within is c.requires.first 8 t.short),
-            tt,
-          ),
-        ),
-      ),
-    )
+    let is = read t i c.close.new.carries c.requires.within c.close.ensures in
+    record {
+      room = c.close.auto.carries ∙ t.room;
+      within = omega arith;
+      located = ap located rest ∙ located-removed xs i x c.requires.within is t.located;
+      short = subst (Short 8) (sym rest) (short-removed xs i x c.requires.within is c.requires.first 8 t.short);
+    }
 
 pub returns : goal.returns
 returns c =
