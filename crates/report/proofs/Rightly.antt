@@ -3,7 +3,7 @@ use Rattle.std.proofs.Common.{◌≡◌, ℕ, ◌+◌, ◌<◌, ◌≤◌, true,
 use Rattle.std.proofs.lemmas.List.{append-nil, append_assoc}
 use Rattle.std.proofs.lemmas.Bool.{and_from, cond-true, cond-false, lt-ltb}
 use Rattle.std.proofs.lemmas.Bool.Decides.{nat_tests}
-use Rattle.std.specs.List.{AllByRecursion as All}
+use Rattle.std.specs.List.{AllByRecursion}
 use Rattle.model.specs.declared.answer.Answer.{Answer}
 use Rattle.model.specs.declared.event.Action.{Action}
 use Rattle.model.specs.declared.event.Event.{Event}
@@ -65,7 +65,7 @@ disciplined_front h [] d = subst Disciplined (append-nil h) d
 disciplined_front h (e ∷ es) d = ((disciplined-more h e).0 (disciplined_front (more h e) es (subst Disciplined (sym (push-append h e es)) d))).0
 
 -- what holds of all holds of each part
-all-parts : {X : Type 0} (P : X → Type 0) (xs ys : List X) → All P (xs ++ ys) → All P xs × All P ys
+all-parts : {X : Type 0} (P : X → Type 0) (xs ys : List X) → AllByRecursion P (xs ++ ys) → AllByRecursion P xs × AllByRecursion P ys
 all-parts P [] ys all = (tt, all)
 all-parts P (x ∷ xs) ys all = let rest = all-parts P xs ys all.1 in ((all.0, rest.0), rest.1)
 
@@ -76,7 +76,7 @@ module _ (o : State) (some_board : 1 ≤ o.boards) (boards : o.boards ≤ 8) (so
   There e = OnBench o e.board e.cell
 
   -- it knows the board of each event
-  on-boards : (h : List Event) → All There h → on_boards h ≡ true
+  on-boards : (h : List Event) → AllByRecursion There h → on_boards h ≡ true
   on-boards [] all = refl
   on-boards (e ∷ h) all = and_from (ltb e.board 8) (on_boards h) (lt-ltb e.board 8 (omega (arith, all.0.0))) (on-boards h all.1)
 
@@ -93,7 +93,7 @@ module _ (o : State) (some_board : 1 ≤ o.boards) (boards : o.boards ≤ 8) (so
       ∙ ap (λ r. extended (after r (Ok (next h))) h e) (cond-true (ltb (length h) 2048) (Ok tt) (Err Refusal.EventsFull) (lt-ltb (length h) 2048 room))
 
   -- it notes all of them, where there is room
-  notes : (h es : List Event) → All There es → Disciplined (h ++ es) → length h + length es ≤ 2048 → noted h o.boards o.words es ≡ h ++ es
+  notes : (h es : List Event) → AllByRecursion There es → Disciplined (h ++ es) → length h + length es ≤ 2048 → noted h o.boards o.words es ≡ h ++ es
   notes h [] all d room = sym (append-nil h)
   notes h (e ∷ es) all d room =
       let d' = subst Disciplined (sym (push-append h e es)) d in
@@ -102,7 +102,7 @@ module _ (o : State) (some_board : 1 ≤ o.boards) (boards : o.boards ≤ 8) (so
       ∙ push-append h e es
 
   -- a legal word is found legal
-  found : (h : List Event) (b c w : ℕ) → OnBench o b c → All There h → Legal h (start_of o c) c b w → not_legal (legal_answer h o.boards o.words b c w) ≡ false
+  found : (h : List Event) (b c w : ℕ) → OnBench o b c → AllByRecursion There h → Legal h (start_of o c) c b w → not_legal (legal_answer h o.boards o.words b c w) ≡ false
   found h b c w there all is = ap (λ r. not_legal (after r (Ok (legal h (start_of o c) c b w)))) (stood b c there) ∙ by (legal h (start_of o c) c b w) refl
     where
       by : (n : Option ℕ) → legal h (start_of o c) c b w ≡ n → not_legal (Ok n) ≡ false
@@ -110,7 +110,7 @@ module _ (o : State) (some_board : 1 ≤ o.boards) (boards : o.boards ≤ 8) (so
       by None e = absurd ((legal_none h (start_of o c) c b w (on-boards h all) (omega (arith, there.0))).0 e is)
 
   -- no step is read wrongly whose word is legal
-  right : (h : List Event) (x : Step) (a : Answer) → All There h
+  right : (h : List Event) (x : Step) (a : Answer) → AllByRecursion There h
       → ((b c w : ℕ) → x ≡ Step.Read b c → a ≡ Answer.Word w → OnBench o b c × Legal h (start_of o c) c b w) → read_wrongly h o.boards o.words x a ≡ false
   right h (Step.Read b c) (Answer.Word w) all is = let here = is b c w refl refl in found h b c w here.0 all here.1
   right h (Step.Read b c) (Answer.Landed y) all is = refl
@@ -135,7 +135,7 @@ module _ (o : State) (some_board : 1 ≤ o.boards) (boards : o.boards ≤ 8) (so
       let l : Logged = record { step = x; answer = a } in
       let front = onto-front (l ∷ log) xs given in
       let history = ap events front.1 ∙ events-append front.0 (l ∷ log) in
-      let there = all-parts There (events log) (event_in x a) (all-parts There (events (l ∷ log)) (events front.0) (subst (All There) history model.events_there)).0 in
+      let there = all-parts There (events log) (event_in x a) (all-parts There (events (l ∷ log)) (events front.0) (subst (AllByRecursion There) history model.events_there)).0 in
       let owners = disciplined_front (events (l ∷ log)) (events front.0) (subst Disciplined history model.owners) in
       let one = one-event x a in
       record {

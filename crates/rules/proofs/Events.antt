@@ -1,7 +1,7 @@
 -- The reads that answer a word and the events of a log are of boards and cells of the bench.
 use Rattle.std.proofs.Common.{◌≡◌, ℕ, zero, suc, List, [], ◌∷◌, sym, refl, subst, arith}
 use Rattle.std.proofs.ByRecursion.{All-append}
-use Rattle.std.specs.List.{AllByRecursion as All}
+use Rattle.std.specs.List.{AllByRecursion}
 use Rattle.model.specs.declared.answer.Answer.{Answer}
 use Rattle.model.specs.declared.event.Event.{Event}
 use Rattle.model.specs.declared.refusal.Refusal.{Refusal}
@@ -38,8 +38,8 @@ refused-silent (Step.Eject b d) r = refl
 refused-silent Step.Land r = refl
 
 module _ {o s : State} {log : List Logged} (reached : Reach o log s) where
-  event-there : {t : State} {x : Step} {a : Answer} → Way s x a t → All (λ e. OnBench o e.board e.cell) (event_in x a)
-  event-there {x = x} (refusing r barred) = subst (All (λ e. OnBench o e.board e.cell)) (sym (refused-silent x r)) tt
+  event-there : {t : State} {x : Step} {a : Answer} → Way s x a t → AllByRecursion (λ e. OnBench o e.board e.cell) (event_in x a)
+  event-there {x = x} (refusing r barred) = subst (AllByRecursion (λ e. OnBench o e.board e.cell)) (sym (refused-silent x r)) tt
   event-there (reading on guard puts) = tt
   event-there (writing on puts) = (on-there reached on, tt)
   event-there (acquiring on guard puts) = (on-there reached on, tt)
@@ -49,13 +49,13 @@ module _ {o s : State} {log : List Logged} (reached : Reach o log s) where
   event-there (landing first) = tt
   event-there idling = tt
 
-pub all_there : {o s : State} {log : List Logged} → Reach o log s → All (λ e. OnBench o e.board e.cell) (events log)
+pub all_there : {o s : State} {log : List Logged} → Reach o log s → AllByRecursion (λ e. OnBench o e.board e.cell) (events log)
 all_there nothing = tt
 all_there {o} (one {log = log} {s = s} {t = t} {x = x} reached takes) =
     All-append (λ e. OnBench o e.board e.cell) (events log) (event_in x.step x.answer) (all_there reached) (event-there reached (way s t x.step x.answer takes))
 
 -- what holds of all events holds of that at each number
-all-at : (P : Event → Type 0) (h : List Event) (n : ℕ) (e : Event) → All P h → At h n e → P e
+all-at : (P : Event → Type 0) (h : List Event) (n : ℕ) (e : Event) → AllByRecursion P h → At h n e → P e
 all-at P [] n e all at = absurd (none-not-some at)
 all-at P (f ∷ h) zero e all at = absurd (none-not-some at)
 all-at P (f ∷ h) (suc zero) e all at = subst P (some-event at) all.0

@@ -1,6 +1,6 @@
 -- The rules on reads, over every list of calls of a bench from any opening.
 use Rattle.std.specs.Prelude.{◌≡◌, ℕ, ◌<◌, List, ◌∷◌, ◌++◌, length, Some, None, Result, ◌≢◌, slice_index}
-use Rattle.std.specs.List.{AllByRecursion as All}
+use Rattle.std.specs.List.{AllByRecursion}
 use Rattle.model.specs.declared.answer.Answer.{Answer}
 use Rattle.model.specs.declared.carry.Carry.{Carry}
 use Rattle.model.specs.declared.refusal.Refusal.{Refusal}
@@ -34,7 +34,7 @@ start_of o c = slice_index o.words c
 pub record KeepsModel (o : State) (log : List Logged) : Type 0 where
   -- Reads that answer a word, and events, are of boards and cells of the bench.
   pub reads_there : (later older : List Logged) (b c w : ℕ) → log ≡ later ++ read_of b c w ∷ older → OnBench o b c
-  pub events_there : All (λ e. OnBench o e.board e.cell) (events log)
+  pub events_there : AllByRecursion (λ e. OnBench o e.board e.cell) (events log)
   -- A read answers the word of some write of the cell that is readable for its board.
   pub legal : (later older : List Logged) (b c w : ℕ) → log ≡ later ++ read_of b c w ∷ older → Legal (events older) (start_of o c) c b w
   -- If every accepted read and write of the cell so far, this read with them, came from its owner at that step, the read

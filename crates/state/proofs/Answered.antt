@@ -1,7 +1,7 @@
 -- Every step has an answer: some choice is open.
 use Rattle.std.proofs.Common.{◌≡◌, ℕ, suc, ◌<◌, ◌≤◌, true, false, cond, eqb, ltb, ◌⊎◌, List, [], ◌∷◌, length, is_some, Some, None, Ok, Err, filter, Option, Result, refl, ap, ◌∙◌, subst, inl, inr, ⊎_elim, arith}
 use Rattle.std.proofs.lemmas.Bool.{both_ways, cases_lt, cond_both, cond-true, and_from, eq-eqb, ltb-true}
-use Rattle.std.specs.List.{AllByRecursion as All}
+use Rattle.std.specs.List.{AllByRecursion}
 use Rattle.model.specs.declared.answer.Answer.{Answer}
 use Rattle.model.specs.declared.carry.Carry.{Carry}
 use Rattle.model.specs.declared.entry.Entry.{Entry}
@@ -112,7 +112,7 @@ waiting ([] ∷ ls) = ⊎_elim (λ q. inl q) (λ r. inr (suc r.0, r.1, r.2, r.3)
 -- in lines of their own boards, the first of a line is the oldest of its lane
 heads-lane : (n : ℕ) (ls : List (List Carry)) (b : ℕ) (x : Carry) (xs : List Carry) → Proper n ls → line ls b ≡ x ∷ xs → oldest (lane ls b x.cell) ≡ Some x
 heads-lane n ls b x xs p e =
-    let own = subst (All (λ y. (y.board ≡ b) × (y.cell ≤ 63))) e (p.own b) in
+    let own = subst (AllByRecursion (λ y. (y.board ≡ b) × (y.cell ≤ 63))) e (p.own b) in
     let is = and_from (eqb x.board b) (eqb x.cell x.cell) (eq-eqb x.board b own.0.0) (eq-eqb x.cell x.cell refl) in
     ap (λ l. oldest (filter (of_lane b x.cell) l)) e ∙ ap oldest (cond-true (of_lane b x.cell x) (x ∷ filter (of_lane b x.cell) xs) (filter (of_lane b x.cell) xs) is)
 

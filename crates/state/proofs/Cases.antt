@@ -1,6 +1,6 @@
 -- The worked cases: the answers of each list of steps, computed over all choices.
 use Rattle.std.proofs.Common.{◌≡◌, ℕ, [], ◌∷◌, length, sym, refl, ap, subst, arith}
-use Rattle.std.specs.List.{AllByRecursion as All}
+use Rattle.std.specs.List.{AllByRecursion}
 use Rattle.model.specs.declared.carry.Carry.{Carry}
 use Rattle.carries.specs.Lines.{line, Proper}
 use Rattle.state.specs.Cases.{idle, small, BenchCases}
@@ -15,7 +15,7 @@ proper-idle : (n : ℕ) → Proper n idle
 proper-idle n =
     record {
       eight = refl;
-      own = λ b. subst (All (λ (x : Carry). _)) (sym (none-wait b)) tt;
+      own = λ b. subst (AllByRecursion (λ (x : Carry). _)) (sym (none-wait b)) tt;
       short = λ b. omega (arith, ap length (none-wait b));
     }
 

@@ -5,7 +5,7 @@ use Rattle.std.proofs.lemmas.List.FromFn.{length-map-range_with_len, get_or-map-
 use Rattle.std.proofs.ByRecursion.{All-get_or, All-weaker}
 use Rattle.std.proofs.lemmas.List.{get_or_past}
 use Rattle.std.proofs.lemmas.Bool.{cases_Bool, cases_lt, cond-false, and_left, le-ltb}
-use Rattle.std.specs.List.{range_with_len, AllByRecursion as All}
+use Rattle.std.specs.List.{range_with_len, AllByRecursion}
 use Rattle.model.specs.declared.answer.Answer.{Answer}
 use Rattle.model.specs.declared.carry.Carry.{Carry}
 use Rattle.model.specs.declared.entry.Entry.{Entry}
@@ -58,23 +58,23 @@ runs s (call ∷ calls) = gathered (λ o. continued o (λ t. runs t calls)) (out
 
 -- what holds of all of a list that is mapped or gathered
 
-all_left : {X : Type 0} (P : X → Type 0) (xs ys : List X) → All P (xs ++ ys) → All P xs × All P ys
+all_left : {X : Type 0} (P : X → Type 0) (xs ys : List X) → AllByRecursion P (xs ++ ys) → AllByRecursion P xs × AllByRecursion P ys
 all_left P [] ys all = (tt, all)
 all_left P (x ∷ xs) ys all = let rest = all_left P xs ys all.1 in ((all.0, rest.0), rest.1)
 
-all-gathered : {X Y : Type 0} (P : Y → Type 0) (f : X → List Y) (xs : List X) → All P (gathered f xs) → All (λ x. All P (f x)) xs
+all-gathered : {X Y : Type 0} (P : Y → Type 0) (f : X → List Y) (xs : List X) → AllByRecursion P (gathered f xs) → AllByRecursion (λ x. AllByRecursion P (f x)) xs
 all-gathered P f [] all = tt
 all-gathered P f (x ∷ xs) all = let parts = all_left P (f x) (gathered f xs) all in (parts.0, all-gathered P f xs parts.1)
 
-all-mapped : {X Y : Type 0} (P : Y → Type 0) (f : X → Y) (xs : List X) → All P (map f xs) → All (λ x. P (f x)) xs
+all-mapped : {X Y : Type 0} (P : Y → Type 0) (f : X → Y) (xs : List X) → AllByRecursion P (map f xs) → AllByRecursion (λ x. P (f x)) xs
 all-mapped P f [] all = tt
 all-mapped P f (x ∷ xs) all = (all.0, all-mapped P f xs all.1)
 
-all-below : (P : Outcome → Type 0) (f : ℕ → Outcome) (n i : ℕ) → i < n → All P (map f (range_with_len 0 n)) → P (f i)
+all-below : (P : Outcome → Type 0) (f : ℕ → Outcome) (n i : ℕ) → i < n → AllByRecursion P (map f (range_with_len 0 n)) → P (f i)
 all-below P f n i h all =
     subst P (get_or-map-range_with_len f 0 n i i None h (omega arith)) (All-get_or P (map f (range_with_len 0 n)) i None (omega (arith, length-map-range_with_len f 0 n)) all)
 
-all-oldest : (P : Carry → Type 0) (b c : ℕ) (xs : List Carry) (x : Carry) → All P xs → oldest (filter (of_lane b c) xs) ≡ Some x → P x
+all-oldest : (P : Carry → Type 0) (b c : ℕ) (xs : List Carry) (x : Carry) → AllByRecursion P xs → oldest (filter (of_lane b c) xs) ≡ Some x → P x
 all-oldest P b c [] x all e = absurd (let z : ◌≡◌ {A = ℕ} 0 1 = cc in omega arith)
 all-oldest P b c (y ∷ ys) x all e =
     ⊎_elim
@@ -136,7 +136,7 @@ module _ (s : State) (sound : Sound s) (i b c : ℕ) where
 
 -- every outcome is listed
 
-all_placed : (P : Outcome → Type 0) (e : Entry) (f : ℕ → Outcome) (i : ℕ) → All P (placed e f) → ((e ≡ Entry.Invalid → 8 ≤ i) → Within (f i) (f 0)) → (o : Answer × State) → f i ≡ Some o → P (Some o)
+all_placed : (P : Outcome → Type 0) (e : Entry) (f : ℕ → Outcome) (i : ℕ) → AllByRecursion P (placed e f) → ((e ≡ Entry.Invalid → 8 ≤ i) → Within (f i) (f 0)) → (o : Answer × State) → f i ≡ Some o → P (Some o)
 all_placed P Entry.Invalid f i all alike o p =
     ⊎_elim
     (λ (h : i < 8). subst P p (all-below P f 8 i h all))
@@ -145,7 +145,7 @@ all_placed P Entry.Invalid f i all alike o p =
 all_placed P (Entry.Clean w) f i all alike o p = subst P (alike (λ q. let z : ◌≡◌ {A = ℕ} 0 1 = cc in omega arith) o p) all.0
 all_placed P (Entry.Dirty w) f i all alike o p = subst P (alike (λ q. let z : ◌≡◌ {A = ℕ} 0 1 = cc in omega arith) o p) all.0
 
-all-line : (P : Carry → Type 0) (ls : List (List Carry)) (b : ℕ) → All (All P) ls → All P (line ls b)
+all-line : (P : Carry → Type 0) (ls : List (List Carry)) (b : ℕ) → AllByRecursion (AllByRecursion P) ls → AllByRecursion P (line ls b)
 all-line P [] b all = tt
 all-line P (l ∷ ls) zero all = all.0
 all-line P (l ∷ ls) (suc b) all = all-line P ls b all.1
@@ -158,7 +158,7 @@ idle-lane s o e =
     (λ (q : quiet s.lines ≡ false). let none = sym (cond-false (quiet s.lines) (Some (Answer.NothingWaits, s)) None q) ∙ e in cc)
     (cases_Bool (quiet s.lines))
 
-all_lanes : (P : Outcome → Type 0) (s : State) (k : Choice) → All P (outcomes s Step.Land) → (o : Answer × State) → step k s Step.Land ≡ Some o → P (Some o)
+all_lanes : (P : Outcome → Type 0) (s : State) (k : Choice) → AllByRecursion P (outcomes s Step.Land) → (o : Answer × State) → step k s Step.Land ≡ Some o → P (Some o)
 all_lanes P s k all o p = by (oldest (lane s.lines k.board k.cell)) refl
   where
     landing : Option Carry → Outcome
@@ -168,14 +168,14 @@ all_lanes P s k all o p = by (oldest (lane s.lines k.board k.cell)) refl
     by (Some x) q =
         let listed = all-gathered P (λ xs. map (λ x. step (at_lane x.board x.cell) s Step.Land) xs) s.lines all.1 in
         let at : Carry → Type 0 = λ y. P (step (at_lane y.board y.cell) s Step.Land) in
-        let each = all-line at s.lines k.board (All-weaker (λ xs. All P (map (λ x. step (at_lane x.board x.cell) s Step.Land) xs)) (All at) (λ xs. all-mapped P (λ x. step (at_lane x.board x.cell) s Step.Land) xs) s.lines listed) in
+        let each = all-line at s.lines k.board (All-weaker (λ xs. AllByRecursion P (map (λ x. step (at_lane x.board x.cell) s Step.Land) xs)) (AllByRecursion at) (λ xs. all-mapped P (λ x. step (at_lane x.board x.cell) s Step.Land) xs) s.lines listed) in
         subst P (ap landing (heads-own s.lines k.board k.cell x q ∙ sym q) ∙ p) (all-oldest at k.board k.cell (line s.lines k.board) x each q)
     by None q =
         subst P
         (within-if (ltb 0 s.boards) (land s None) (land s (oldest (lane s.lines 0 0))) (refuse Refusal.NoSuchBoard s) (idle-lane s) o (ap landing (sym q) ∙ p))
         all.0
 
-listed : (P : Outcome → Type 0) (s : State) (k : Choice) (call : Step) → Sound s → All P (outcomes s call) → (o : Answer × State) → step k s call ≡ Some o → P (Some o)
+listed : (P : Outcome → Type 0) (s : State) (k : Choice) (call : Step) → Sound s → AllByRecursion P (outcomes s call) → (o : Answer × State) → step k s call ≡ Some o → P (Some o)
 listed P s k (Step.Read b c) sound all =
     let e = (project c s).entry b in
     all_placed P e (λ i. step (at_place i) s (Step.Read b c)) k.place all
@@ -192,11 +192,11 @@ listed P s k Step.Land sound all = all_lanes P s k all
 
 -- every chain is among the runs
 
-all_runs : (P : List Answer → Type 0) {s t : State} {calls : List Step} {answers : List Answer} → Chain s calls answers t → Sound s → All P (runs s calls) → P answers
+all_runs : (P : List Answer → Type 0) {s t : State} {calls : List Step} {answers : List Answer} → Chain s calls answers t → Sound s → AllByRecursion P (runs s calls) → P answers
 all_runs P end sound all = all.0
 all_runs P {s = s} (link {t = t} {call = call} {calls = calls} {answer = a} takes chain) sound all =
     let each = all-gathered P (λ o. continued o (λ u. runs u calls)) (outcomes s call) all in
-    let here = listed (λ o. All P (continued o (λ u. runs u calls))) s takes.0 call sound each (a, t) takes.1 in
+    let here = listed (λ o. AllByRecursion P (continued o (λ u. runs u calls))) s takes.0 call sound each (a, t) takes.1 in
     all_runs (λ l. P (a ∷ l)) chain (sound-kept s t call a takes sound) (all-mapped P (λ l. a ∷ l) (runs t calls) here)
 
 -- where all runs have the same answers
@@ -204,7 +204,7 @@ pub surely : (s : State) (calls : List Step) (answers : List Answer) (n : ℕ) �
 surely s calls answers n sound same = record { only = λ others t chain. is others t chain; some = (first.1, subst (λ l. Chain s calls l first.1) (is first.0 first.1 first.2) first.2) }
   where
     is : (others : List Answer) (t : State) → Chain s calls others t → others ≡ answers
-    is others t chain = all_runs (λ l. l ≡ answers) chain sound (subst (All (λ l. l ≡ answers)) (sym same) (all_alike (λ l. l ≡ answers) n answers refl))
+    is others t chain = all_runs (λ l. l ≡ answers) chain sound (subst (AllByRecursion (λ l. l ≡ answers)) (sym same) (all_alike (λ l. l ≡ answers) n answers refl))
 
     first : (others : List Answer) × (t : State) × Chain s calls others t
     first = lists_answered s calls sound

@@ -4,7 +4,7 @@ use Rattle.std.proofs.ByRecursion.{All-push, kept_by_passes}
 use Rattle.std.proofs.lemmas.List.{append-nil, length_push, length-set, get_or-set_same, get_or-set_other, set_past}
 use Rattle.std.proofs.lemmas.Bool.{cases_eq, cases_lt, cond-true, cond-false, cond_both, and_parts, and_from, and_left, and_right, eq-eqb, ne_eqb, eqb-true, ltb-false, le-ltb}
 use Rattle.std.proofs.lemmas.Bool.Decides.{nat_tests}
-use Rattle.std.specs.List.{AllByRecursion as All}
+use Rattle.std.specs.List.{AllByRecursion}
 use Rattle.model.specs.declared.carry.Carry.{Carry}
 use Rattle.model.specs.declared.refusal.Refusal.{Refusal}
 use Rattle.carries.specs.Lines.{line, of_lane, lane, oldest, joined, start_at, if_started, started, without, Proper}
@@ -31,7 +31,7 @@ heads-own ls b c x e =
     subst (λ k. oldest (lane ls k x.cell) ≡ Some x) (sym (eqb-true x.board b is.0))
     (subst (λ d. oldest (lane ls b d) ≡ Some x) (sym (eqb-true x.cell c is.1)) e)
   where
-    passes : (xs : List Carry) → All (λ y. of_lane b c y ≡ true) xs → oldest xs ≡ Some x → of_lane b c x ≡ true
+    passes : (xs : List Carry) → AllByRecursion (λ y. of_lane b c y ≡ true) xs → oldest xs ≡ Some x → of_lane b c x ≡ true
     passes [] all h = cc
     passes (y ∷ ys) all h = let is : y ≡ x = cc in subst (λ z. of_lane b c z ≡ true) is all.0
 
@@ -77,13 +77,13 @@ each_line P ls b l h new old k =
     (λ (ne : k ≡ b → ⊥). subst (P k) (sym (get_or-set_other ls b k l [] ne)) (old k))
     (cases_eq k b)
 
-proper-set : (n : ℕ) (ls : List (List Carry)) (b : ℕ) (l : List Carry) → Proper n ls → All (Own b) l → length l ≤ n → Proper n (set ls b l)
+proper-set : (n : ℕ) (ls : List (List Carry)) (b : ℕ) (l : List Carry) → Proper n ls → AllByRecursion (Own b) l → length l ≤ n → Proper n (set ls b l)
 proper-set n ls b l p own short =
     ⊎_elim
     (λ (h : b < length ls).
     record {
       eight = length-set ls b l ∙ p.eight;
-      own = each_line (λ k. All (Own k)) ls b l h own p.own;
+      own = each_line (λ k. AllByRecursion (Own k)) ls b l h own p.own;
       short = each_line (λ k xs. length xs ≤ n) ls b l h short p.short;
     })
     (λ (h : length ls ≤ b). subst (Proper n) (sym (set_past ls b l h)) p)
@@ -117,9 +117,9 @@ proper-started n ls x u e p =
     (All-push (Own b) (line ls b) x (p.own b) (refl, omega (arith, k.cell)))
     (omega (arith, length_push (line ls b) x, k.room)))
 
-all_without : (P : Carry → Type 0) (b c : ℕ) (xs : List Carry) → All P xs → All P (without b c xs)
+all_without : (P : Carry → Type 0) (b c : ℕ) (xs : List Carry) → AllByRecursion P xs → AllByRecursion P (without b c xs)
 all_without P b c [] all = tt
-all_without P b c (x ∷ xs) all = cond_both (of_lane b c x) xs (x ∷ without b c xs) (All P) (λ _. all.1) (λ _. (all.0, all_without P b c xs all.1))
+all_without P b c (x ∷ xs) all = cond_both (of_lane b c x) xs (x ∷ without b c xs) (AllByRecursion P) (λ _. all.1) (λ _. (all.0, all_without P b c xs all.1))
 
 length_without : (b c : ℕ) (xs : List Carry) → length (without b c xs) ≤ length xs
 length_without b c [] = omega arith

@@ -1,6 +1,6 @@
 -- What holds of every state that a bench can be in.
 use Rattle.std.specs.Prelude.{◌≡◌, ◌≤◌, List, length}
-use Rattle.std.specs.List.{AllByRecursion as All}
+use Rattle.std.specs.List.{AllByRecursion}
 use Rattle.carries.specs.Lines.{Proper}
 use Rattle.cache.specs.declared.place.Place.{Place}
 use Rattle.cache.specs.Places.{Distinct}
@@ -15,6 +15,6 @@ pub record Sound (s : State) : Type 0 where
   pub boards : s.boards ≤ 8
   pub entries : s.entries ≤ 8
   pub caches : length s.caches ≡ 8
-  pub places : All IsCache s.caches
+  pub places : AllByRecursion IsCache s.caches
   pub owners : length s.owners ≡ 64
   pub lines : Proper s.long s.lines
