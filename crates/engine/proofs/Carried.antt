@@ -1,5 +1,5 @@
 -- What becomes of the path in a step, over any kind of path.
-use Rattle.std.proofs.Common.{◌≡◌, ℕ, Bool, true, false, cond, ◌&&◌, ltb, Ok, Err, Option, Result, sym, refl, ap, ◌∙◌, subst, arith}
+use Rattle.std.proofs.Common.{◌≡◌, ℕ, Bool, true, false, cond, ◌&&◌, ltb, Ok, Err, Option, sym, refl, ap, ◌∙◌, subst, arith}
 use Rattle.model.specs.declared.answer.Answer.{Answer}
 use Rattle.model.specs.declared.carry.Carry.{Carry}
 use Rattle.model.specs.declared.entry.Entry.{Entry}

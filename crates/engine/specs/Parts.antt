@@ -1,5 +1,5 @@
 -- What the parts of a step promise, over states.
-use Rattle.std.specs.Prelude.{◌≡◌, ℕ, Bool, cond, Some, Ok, Err, Result, nat_lt}
+use Rattle.std.specs.Prelude.{◌≡◌, ℕ, cond, Some, Ok, Err, Result, nat_lt}
 use Rattle.model.specs.declared.answer.Answer.{Answer}
 use Rattle.model.specs.declared.entry.Entry.{Entry}
 use Rattle.model.specs.declared.refusal.Refusal.{Refusal}

@@ -2,9 +2,7 @@ ghost use Rattle.std.specs.Prelude.{◌≤◌};
 
 use crate::owners::Owners;
 use cache::caches::Caches;
-use home::source::Home;
 use model::refusal::Refusal;
-use path::path::Path;
 
 mod calls;
 mod cells;
@@ -15,7 +13,7 @@ mod run;
 // A bench over a home and a path: how many boards it has and how many entries each cache may have, or why its opening
 // was refused; the caches, and who owns each cell.
 #[derive(Drop)]
-pub struct Bench<H: Home, P: Path> {
+pub struct Bench<H, P> {
     refusal: Option<Refusal>,
     boards: u32,
     entries: u32,

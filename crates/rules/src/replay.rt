@@ -15,7 +15,7 @@ use path::path::Path;
 
 // A bench after a run, and whether the run was refused.
 #[derive(Drop)]
-pub struct Replayed<H: Home, P: Path> {
+pub struct Replayed<H, P> {
     pub bench: Bench<H, P>,
     pub result: Result<(), Refusal>,
 }

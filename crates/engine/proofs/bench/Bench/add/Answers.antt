@@ -1,6 +1,5 @@
-use Rattle.std.proofs.Common.{ℕ, ltb, sym, refl, ap, ◌∙◌, rules}
-use Rattle.cache.specs.Places.{taken_in}
-use Rattle.state.specs.States.{cache_of, with_caches}
+use Rattle.std.proofs.Common.{sym, refl, ap, ◌∙◌, rules}
+use Rattle.state.specs.States.{with_caches}
 use Rattle.engine.specs.Benches.{state_of}
 use Rattle.engine.proofs.Ways.{added, no_room}
 use Rattle.engine.proofs.bench.Bench.add.Goals as goal

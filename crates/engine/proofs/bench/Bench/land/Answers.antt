@@ -1,4 +1,4 @@
-use Rattle.std.proofs.Common.{Some, sym, refl, subst, arith, rules}
+use Rattle.std.proofs.Common.{Some, sym, refl, subst, rules}
 use Rattle.engine.specs.Benches.{state_of}
 use Rattle.engine.proofs.Ways.{land-refused, land-none, land-some}
 use Rattle.engine.proofs.bench.Bench.land.Goals as goal

@@ -1,16 +1,14 @@
-use Rattle.std.proofs.Common.{sym, refl, ap, ◌∙◌}
+use Rattle.std.proofs.Common.{refl}
 use Rattle.std.proofs.lemmas.Result.{err_from_is_err_and}
-use Rattle.cache.specs.Places.{entry_in}
-use Rattle.state.specs.States.{cache_of, owner_of}
 use Rattle.state.specs.Steps.{release}
 use Rattle.engine.specs.Benches.{state_of}
-use Rattle.engine.proofs.Ways.{refused, through, plain}
+use Rattle.engine.proofs.Ways.{refused, plain}
 use Rattle.engine.proofs.bench.Bench.release.Goals as goal
 
 pub returns-in_err-checked : goal.returns-in_err-checked
 returns-in_err-checked g c =
     let s = state_of g.H.Source.words g.P.Path.lines g.P.Path.long c.args.self.now in
-    let p = err_from_is_err_and c.from-residual.result c.from-residual.ensures.1 in
+    let p = err_from_is_err_and c.from_residual.result c.from_residual.ensures.1 in
     record {
       step = rw (p.1, p.2) (refused s c.args.board c.args.cell (λ k. release s c.args.board c.args.cell) c.in_err-checked.field-0.0 c.in_err-checked.ensures);
       path = refl {a = c.args.self.now.path};
