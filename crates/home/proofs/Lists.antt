@@ -1,5 +1,5 @@
 -- Laws of `counted`.
-use Rattle.std.proofs.Common.{◌≡◌, ℕ, zero, suc, ◌<◌, min, List, [], ◌∷◌, length, get_or, take, set, refl, ap, arith}
+use Rattle.std.proofs.Common.{◌≡◌, ℕ, zero, suc, ◌<◌, min, List, [], ◌∷◌, length, get_or, take, set, refl, ap}
 use Rattle.std.proofs.lemmas.List.{length-take, get_or-take}
 use Rattle.home.specs.WordHome.{counted}
 

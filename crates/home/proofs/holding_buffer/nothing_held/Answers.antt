@@ -1,4 +1,4 @@
-use Rattle.std.proofs.Common.{replicate, None, rules}
+use Rattle.std.proofs.Common.{replicate, None}
 use Rattle.home.proofs.Overlays.{overlay-none, get_or-nones}
 use Rattle.home.proofs.holding_buffer.nothing_held.Goals as goal
 

@@ -1,4 +1,4 @@
-use Rattle.std.proofs.Common.{◌≡◌, length, sym, ap, ◌∙◌, subst}
+use Rattle.std.proofs.Common.{length, sym, ap, ◌∙◌, subst}
 use Rattle.home.specs.Words.{read_at, OthersKept}
 use Rattle.home.proofs.Answers.{written-length, written_back, written-others}
 use Rattle.home.proofs.read_back.put.Goals as goal

@@ -1,4 +1,4 @@
-use Rattle.std.proofs.Common.{◌≡◌, ℕ, ◌%◌, ◌<◌, length, get_or, set, Some, None, sym, ap, ◌∙◌, subst, arith, rules}
+use Rattle.std.proofs.Common.{◌≡◌, ℕ, ◌%◌, ◌<◌, length, get_or, set, Some, None, ap, ◌∙◌, subst, arith, rules}
 use Rattle.home.specs.Buffer.{overlay, sent, pair_of}
 use Rattle.home.proofs.Overlays.{overlay-length, overlay-put}
 use Rattle.home.proofs.holding_buffer.HoldingBuffer.hold.Goals as goal

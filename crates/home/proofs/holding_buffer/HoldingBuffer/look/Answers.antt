@@ -1,4 +1,4 @@
-use Rattle.std.proofs.Common.{◌≡◌, ℕ, get_or, None, sym, ap, ◌∙◌, arith}
+use Rattle.std.proofs.Common.{ℕ, get_or, None, sym, ap, ◌∙◌, arith}
 use Rattle.home.specs.Buffer.{held_for}
 use Rattle.home.proofs.Overlays.{overlay-length, read_held, read_below}
 use Rattle.home.proofs.holding_buffer.HoldingBuffer.look.Goals as goal

@@ -1,4 +1,4 @@
-use Rattle.std.proofs.Common.{take, sym, arith}
+use Rattle.std.proofs.Common.{take, sym}
 use Rattle.home.proofs.Kept.{words-length}
 use Rattle.home.proofs.pair_home.PairHome.cell_count.Goals as goal
 

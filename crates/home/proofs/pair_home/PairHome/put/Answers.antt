@@ -32,19 +32,14 @@ invariant_of-self c =
     let h = c.args.self.now in
     let j = c.place_of-at.result in
     let c-in = has h c.args.cell c.requires in
-    let at = goes h c.pairs.result.now c.args.cell j c.place_of-at.ensures c.pairs.ensures in (
-      rw (length-set h.table j (pair c.args.cell c.args.word)) h.long,
-      (
-        h.few,
-        (
-          count_room h.cells h.count h.table c.args.cell c.args.word j h.long h.few h.room h.inside h.once c-in at c.max-self.result c.max-self.ensures,
-          (
-            inside_after h.cells h.count h.table c.args.cell c.args.word j h.long h.few h.room h.inside h.once c-in at c.max-self.result c.max-self.ensures,
-            (once_after h.cells h.count h.table c.args.cell c.args.word j h.long h.few h.room h.inside h.once c-in at c.max-self.result c.max-self.ensures, tt),
-          ),
-        ),
-      ),
-    )
+    let at = goes h c.pairs.result.now c.args.cell j c.place_of-at.ensures c.pairs.ensures in
+    record {
+      long = rw (length-set h.table j (pair c.args.cell c.args.word)) h.long;
+      few = h.few;
+      room = count_room h.cells h.count h.table c.args.cell c.args.word j h.long h.few h.room h.inside h.once c-in at c.max-self.result c.max-self.ensures;
+      inside = inside_after h.cells h.count h.table c.args.cell c.args.word j h.long h.few h.room h.inside h.once c-in at c.max-self.result c.max-self.ensures;
+      once = once_after h.cells h.count h.table c.args.cell c.args.word j h.long h.few h.room h.inside h.once c-in at c.max-self.result c.max-self.ensures;
+    }
 
 pub returns : goal.returns
 returns c =

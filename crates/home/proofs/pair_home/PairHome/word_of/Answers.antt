@@ -1,4 +1,4 @@
-use Rattle.std.proofs.Common.{◌≡◌, length, get_or, take, unwrap_or, sym, ap, ◌∙◌, subst, arith}
+use Rattle.std.proofs.Common.{get_or, take, unwrap_or, sym, ap, ◌∙◌, arith}
 use Rattle.home.specs.Pairs.{word_in}
 use Rattle.home.proofs.Kept.{blank, found, missing, words-length, words-at}
 use Rattle.home.proofs.pair_home.PairHome.word_of.Goals as goal

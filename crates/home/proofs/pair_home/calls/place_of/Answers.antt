@@ -1,4 +1,4 @@
-use Rattle.std.proofs.Common.{ap, arith}
+use Rattle.std.proofs.Common.{arith}
 use Rattle.std.proofs.lemmas.List.{at_drop_all}
 use Rattle.home.specs.Pairs.{place_in}
 use Rattle.home.proofs.Kept.{place_here, place-more}

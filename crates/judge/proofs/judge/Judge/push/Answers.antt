@@ -11,7 +11,11 @@ invariant_of-self c =
     let e = c.args.event in
     let count : length (take i list) ≡ i = length-take-le i list c.args.self.now.within in
     let room : length (take i list) < min 2048 (length list) = c.requires.room in
-    (omega arith, (omega (arith, length-set list i e), (ap on_boards (take_more_set list i e (omega arith)) ∙ boards-more (take i list) e c.args.self.now.boards c.requires.board, tt)))
+    record {
+      few = omega arith;
+      within = omega (arith, length-set list i e);
+      boards = ap on_boards (take_more_set list i e (omega arith)) ∙ boards-more (take i list) e c.args.self.now.boards c.requires.board;
+    }
 
 pub returns : goal.returns
 returns c =
