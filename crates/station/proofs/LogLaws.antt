@@ -1,6 +1,6 @@
 -- Steps that each stand after the events before them are a log whose reads are all legal, and the other way round.
 use Rattle.std.proofs.Common.{◌≡◌, ℕ, List, [], ◌∷◌, ◌++◌, Ok, sym, refl, ap, ◌∙◌, subst}
-use Rattle.std.specs.List.{AllByRecursion as All}
+use Rattle.std.specs.List.{AllByRecursion}
 use Rattle.std.proofs.lemmas.List.{append-nil, append_assoc}
 use Rattle.model.specs.declared.event.Event.{Event}
 use Rattle.model.specs.declared.step.Step.{Step}
@@ -19,7 +19,7 @@ use Rattle.station.proofs.StepLaws.{Fine, Runs, done, step, never}
 
 -- all reads of some steps are legal, where the events h come before them
 pub record From (H : Header) (h : List Event) (ps : List PlacedStep) : Type 0 where
-  pub on_bench : All (Stands H) ps
+  pub on_bench : AllByRecursion (Stands H) ps
   pub disciplined : Disciplined (h ++ events_of ps)
   pub legal : (before later : List PlacedStep) (line b c w : ℕ) → ps ≡ before ++ read_step line b c w ∷ later → Legal (h ++ events_of before) H.start c b w
 

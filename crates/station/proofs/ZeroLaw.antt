@@ -1,7 +1,7 @@
 -- The number of a verdict is 0 exactly if the text is a log without a fault and all of its reads are legal.
 use Rattle.std.proofs.Common.{◌≡◌, ℕ, ◌+◌, ◌*◌, ◌<◌, ◌≤◌, Bool, true, false, List, [], ◌∷◌, length, get_or, replicate, Some, None, Ok, Err, Option, Result, sym, refl, ap, ◌∙◌, subst, arith}
 use lib.ListN.{length-replicate, get_or-replicate}
-use Rattle.std.specs.List.{AllByRecursion as All}
+use Rattle.std.specs.List.{AllByRecursion}
 use Rattle.model.specs.Refusals.{number_of}
 use Rattle.model.specs.declared.event.Event.{Event}
 use Rattle.model.specs.declared.refusal.Refusal.{Refusal}
@@ -57,7 +57,7 @@ ended-told (Ok true) n v l t = t
 ended-told (Ok false) n v l t = l
 ended-told (Err r) n v l t = tt
 
-judged-told : (boards : ℕ) (ws : List ℕ) (ps : List PlacedStep) (h : List Event) → All OnLine ps → Told (judged_to AllLegal boards ws h ps)
+judged-told : (boards : ℕ) (ws : List ℕ) (ps : List PlacedStep) (h : List Event) → AllByRecursion OnLine ps → Told (judged_to AllLegal boards ws h ps)
 unfolding Told
 judged-told boards ws [] h l = tt
 judged-told boards ws (p ∷ ps) h l = ended-told (task_answer h boards ws (task_of p.step)) p.line _ l.0 (judged-told boards ws ps (history_after h boards ws (task_of p.step)) l.1)
@@ -72,10 +72,10 @@ zero-legal (Faulty f) t e = absurd (omega (arith, positive f.refusal))
 
 pub record Read (log : List ℕ) (t : Trace) : Type 0 where
   pub header : InRange t.header
-  pub lined : All OnLine t.steps
+  pub lined : AllByRecursion OnLine t.steps
   pub few : length t.steps ≤ 2048
 
-read_of : (r : Result Header Fault) (ps : List PlacedStep) (f : Option Fault) (log : List ℕ) (t : Trace) → ((g : Header) → r ≡ Ok g → InRange g) → All OnLine ps → length ps ≤ 2048 → complete r (record { steps = ps; fault = f }) ≡ Ok t → Read log t
+read_of : (r : Result Header Fault) (ps : List PlacedStep) (f : Option Fault) (log : List ℕ) (t : Trace) → ((g : Header) → r ≡ Ok g → InRange g) → AllByRecursion OnLine ps → length ps ≤ 2048 → complete r (record { steps = ps; fault = f }) ≡ Ok t → Read log t
 read_of (Ok g) ps None log t fits lined few e =
     let same : record { header = g; steps = ps } ≡ t = cc in
     subst (Read log) same (record { header = fits g refl; lined = lined; few = few })

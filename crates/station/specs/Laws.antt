@@ -1,6 +1,6 @@
 -- When a verdict says that all reads are legal, in the words of the memory model.
 use Rattle.std.specs.Prelude.{◌≡◌, ℕ, ◌<◌, ◌↔◌, List, [], ◌∷◌, ◌++◌, Ok}
-use Rattle.std.specs.List.{AllByRecursion as All}
+use Rattle.std.specs.List.{AllByRecursion}
 use Rattle.model.specs.declared.event.Event.{Event}
 use Rattle.order.specs.Order.{Disciplined, Legal}
 use Rattle.grammar.specs.declared.kind.Kind.TheVariants.{Log}
@@ -39,7 +39,7 @@ read_step line b c w = record { line = line; step = ReadWord b c w }
 -- what a log of a bench under that header has to be for all of its reads to be legal
 pub record AllReadsLegal (h : Header) (steps : List PlacedStep) : Type 0 where
   -- its events and reads are of boards and cells of the bench
-  pub on_bench : All (Stands h) steps
+  pub on_bench : AllByRecursion (Stands h) steps
   -- each acquire finds its cell without an owner, and each release is by the owner
   pub disciplined : Disciplined (events_of steps)
   -- each read answers the word of some write that is readable for its board after the events before it

@@ -1,6 +1,6 @@
 -- A printed trace is read back, whatever remarks stand between its lines.
 use Rattle.std.proofs.Common.{◌≡◌, ℕ, suc, ◌+◌, ◌≤◌, true, false, ◌&&◌, eqb, ltb, leb, List, [], ◌∷◌, ◌++◌, map, length, drop, Some, None, Ok, Err, codes, Option, Result, sym, refl, ap, ◌∙◌, subst, arith}
-use Rattle.std.specs.List.{AllByRecursion as All}
+use Rattle.std.specs.List.{AllByRecursion}
 use Rattle.std.proofs.lemmas.List.{length-drop, length-map}
 use Rattle.std.proofs.lemmas.Bool.{cond-true, cond-false, or_parts, and_from, le-leb, lt-ltb, le-ltb}
 use Rattle.model.specs.declared.refusal.Refusal.{Refusal}
@@ -37,11 +37,11 @@ line-front (c ∷ l) rest h =
     cond-false (eqb c 10) (Some [] ∷ lines (l ++ 10 ∷ rest)) (grown c (lines (l ++ 10 ∷ rest))) p.0
     ∙ ap (grown c) (line-front l rest p.1)
 
-lines-back : (ms : List (List ℕ)) → All PlainLine ms → lines (text_of ms) ≡ map Some ms
+lines-back : (ms : List (List ℕ)) → AllByRecursion PlainLine ms → lines (text_of ms) ≡ map Some ms
 lines-back [] h = refl
 lines-back (l ∷ ms) h = line-front l (text_of ms) h.0 ∙ ap (λ ls. Some l ∷ ls) (lines-back ms h.1)
 
-plain-remarked : {ls ms : List (List ℕ)} → Remarked ls ms → All PlainLine ls → All PlainLine ms
+plain-remarked : {ls ms : List (List ℕ)} → Remarked ls ms → AllByRecursion PlainLine ls → AllByRecursion PlainLine ms
 plain-remarked end h = tt
 plain-remarked (line d) h = (h.0, plain-remarked d h.1)
 plain-remarked (remark r p d) h = (p, plain-remarked d h)
@@ -56,7 +56,7 @@ told_at (n ∷ ns) (l ∷ ls) = record { line = n; says = piece l } ∷ told_at 
 abbrev Telling : List ℕ → Type 0
 Telling l = is_remark (piece l) ≡ false
 
-told-remarked : {ls ms : List (List ℕ)} → Remarked ls ms → All Telling ls → (n : ℕ) → told n (map Some ms) ≡ told_at (numbers n ms) ls
+told-remarked : {ls ms : List (List ℕ)} → Remarked ls ms → AllByRecursion Telling ls → (n : ℕ) → told n (map Some ms) ≡ told_at (numbers n ms) ls
 told-remarked end h n = refl
 told-remarked (line {l} {ls} {ms} d) h n =
     told-first n (Some l) (map Some ms) h.0
@@ -64,7 +64,7 @@ told-remarked (line {l} {ls} {ms} d) h n =
     ∙ ap (λ ns. told_at ns (l ∷ ls)) (sym (cond-false (is_remark (piece l)) (numbers (n + 1) ms) (n ∷ numbers (n + 1) ms) h.0))
 told-remarked (remark r p d) h n = told-remarked d h (n + 1)
 
-numbers-length : {ls ms : List (List ℕ)} → Remarked ls ms → All Telling ls → (n : ℕ) → length (numbers n ms) ≡ length ls
+numbers-length : {ls ms : List (List ℕ)} → Remarked ls ms → AllByRecursion Telling ls → (n : ℕ) → length (numbers n ms) ≡ length ls
 numbers-length end h n = refl
 numbers-length (line {l} {ls} {ms} d) h n =
     ap length (cond-false (is_remark (piece l)) (numbers (n + 1) ms) (n ∷ numbers (n + 1) ms) h.0) ∙ ap suc (numbers-length d h.1 (n + 1))
@@ -142,7 +142,7 @@ placed-lines [] (s ∷ ss) q = absurd (omega arith)
 placed-lines (n ∷ ns) [] q = absurd (omega arith)
 placed-lines (n ∷ ns) (s ∷ ss) q = ap (λ ms. n ∷ ms) (placed-lines ns ss (omega arith))
 
-course-back : (k : Kind) (i : ℕ) (ss : List TraceStep) (ns : List ℕ) → All (Writable k) ss → i + length ss ≤ 2048 → length ns ≡ length ss → course k i (told_at ns (map step_line ss)) ≡ record { steps = placed ns ss; fault = None }
+course-back : (k : Kind) (i : ℕ) (ss : List TraceStep) (ns : List ℕ) → AllByRecursion (Writable k) ss → i + length ss ≤ 2048 → length ns ≡ length ss → course k i (told_at ns (map step_line ss)) ≡ record { steps = placed ns ss; fault = None }
 course-back k i [] [] w few q = refl
 course-back k i [] (n ∷ ns) w few q = absurd (omega arith)
 course-back k i (s ∷ ss) [] w few q = absurd (omega arith)
@@ -153,12 +153,12 @@ course-back k i (s ∷ ss) (n ∷ ns) w few q =
 
 -- the whole
 
-steps_all : (P : List ℕ → Type 0) (k : Kind) (ss : List TraceStep) → ((s : TraceStep) → Writable k s → P (step_line s)) → All (Writable k) ss → All P (map step_line ss)
+steps_all : (P : List ℕ → Type 0) (k : Kind) (ss : List TraceStep) → ((s : TraceStep) → Writable k s → P (step_line s)) → AllByRecursion (Writable k) ss → AllByRecursion P (map step_line ss)
 steps_all P k [] f w = tt
 steps_all P k (s ∷ ss) f w = (f s w.0, steps_all P k ss f w.1)
 
-module _ (k : Kind) (h : Header) (ss : List TraceStep) (fits : InRange h) (w : All (Writable k) ss) where
-  printed-plain : All PlainLine (printed k h ss)
+module _ (k : Kind) (h : Header) (ss : List TraceStep) (fits : InRange h) (w : AllByRecursion (Writable k) ss) where
+  printed-plain : AllByRecursion PlainLine (printed k h ss)
   printed-plain = (
     kind-plain k,
     (
@@ -173,7 +173,7 @@ module _ (k : Kind) (h : Header) (ss : List TraceStep) (fits : InRange h) (w : A
     ),
   )
 
-  printed-telling : All Telling (printed k h ss)
+  printed-telling : AllByRecursion Telling (printed k h ss)
   printed-telling = (
     kind-told k,
     (

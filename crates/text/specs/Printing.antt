@@ -1,6 +1,6 @@
 -- A whole trace printed as text, with remarks put anywhere; and the law that reading gives it back.
 use Rattle.std.specs.Prelude.{◌≡◌, ℕ, ◌+◌, ◌≤◌, false, cond, List, [], ◌∷◌, ◌++◌, map, length, drop, Ok, Err, codes, Result}
-use Rattle.std.specs.List.{AllByRecursion as All}
+use Rattle.std.specs.List.{AllByRecursion}
 use Rattle.grammar.specs.declared.kind.Kind.{Kind}
 use Rattle.grammar.specs.declared.trace_step.TraceStep.{TraceStep}
 use Rattle.grammar.specs.Pieces.{holds, piece, is_remark}
@@ -52,5 +52,5 @@ GivesBack h ss ns (Err f) = ⊥
 abbrev pub ReadsBack : Type 0
 ReadsBack =
     (k : Kind) (h : Header) (ss : List TraceStep) (ms : List (List ℕ)) →
-    InRange h → All (Writable k) ss → length ss ≤ 2048 → Remarked (printed k h ss) ms → length (text_of ms) ≤ 60000 →
+    InRange h → AllByRecursion (Writable k) ss → length ss ≤ 2048 → Remarked (printed k h ss) ms → length (text_of ms) ≤ 60000 →
     GivesBack h ss (drop 5 (numbers 1 ms)) (reading k (text_of ms))
