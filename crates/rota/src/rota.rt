@@ -6,7 +6,7 @@ ghost use Rattle.carries.specs.Tables.{Short};
 ghost use Rattle.rota.specs.Bound.{LandsWithin};
 ghost use Rattle.rota.specs.Turns.{fixed_turns, EveryBoard, waits, can_land, turn_to_land, turn_after, landing, Served, StartsInLine, LandsByTurn};
 ghost use Rattle.carries.proofs.ByBoard;
-ghost use Rattle.std.proofs.Common.{rules, arith};
+ghost use Rattle.std.proofs.Common.{rules};
 
 use carries::table::Table;
 use model::carry::Carry;
@@ -120,6 +120,8 @@ impl Rota {
 impl Path for Rota {
     const LENGTH: u32 = 4;
 
+    ghost LENGTH = { 4 };
+
     ghost long = { 4 };
 
     ghost lines = { λ p. lines_in p.waiting };
@@ -128,13 +130,13 @@ impl Path for Rota {
 
     ghost lands = { λ p r q. LandsByTurn (lines_in p.waiting) p.turn r (lines_in q.waiting) q.turn };
 
-    ghost bounded = { first_of (Prim.search rules, Prim.grind (arith, Self.row.coded.inj)) };
+    ghost bounded = { Prim.search rules };
 
     ghost proper = { λ p. ByBoard.proper 4 (held p.waiting) p.waiting.located p.short };
 
     fn capacity() -> u32
         ensures value { result ≡ 4 }
-        ensures* constant { do ⌜ result ≡ (← (⟦Self::LENGTH⟧).entry) ⌝ }
+        ensures constant { result ≡ ⟦<Self as Path>⟧.LENGTH }
     {
         Self::LENGTH
     }

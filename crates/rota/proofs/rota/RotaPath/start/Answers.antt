@@ -13,6 +13,7 @@ returns c =
     record {
       answer = c.start_in.ensures.answer;
       after = c.start_in.ensures.after;
+      turn = refl;
       own = (c.start_in.ensures.after, refl);
       refused = λ e. same _ _ (c.start_in.ensures.refused e) refl;
     }
