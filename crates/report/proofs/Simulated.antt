@@ -88,8 +88,8 @@ module _ (s : State) (p : Plain) (sound : Sound s) (like : Like s p) (b c : ℕ)
   refused r = resting like
 
   -- both check the board, then the cell; the path is asked only where they are on the bench
-  on_bench : (tr : Traffic) (o : Outcome) (r : Reply) → (On s b c → Agrees p.waiting (λ _. tr) o r) → Agrees p.waiting (λ _. cond (ltb b s.boards && ltb c (cells_of s)) tr none) (checked s b c o) (on_bench p b c r)
-  on_bench tr o r go =
+  bench-agrees : (tr : Traffic) (o : Outcome) (r : Reply) → (On s b c → Agrees p.waiting (λ _. tr) o r) → Agrees p.waiting (λ _. cond (ltb b s.boards && ltb c (cells_of s)) tr none) (checked s b c o) (on_bench p b c r)
+  bench-agrees tr o r go =
       subst (Agrees p.waiting (λ _. cond (ltb b s.boards && ltb c (cells_of s)) tr none) (checked s b c o))
       (sym (ap (λ n. turn_by p (ltb b n) (ltb c p.cells) r) like.boards ∙ ap (λ n. turn_by p (ltb b s.boards) (ltb c n) r) like.cells))
       (by (ltb b s.boards) (ltb c (cells_of s)) refl refl)
@@ -102,7 +102,7 @@ module _ (s : State) (p : Plain) (sound : Sound s) (like : Like s p) (b c : ℕ)
 
   -- a step that asks the path for nothing
   on_quiet : (o : Outcome) (r : Reply) → (On s b c → Silent o r) → Silent (checked s b c o) (on_bench p b c r)
-  on_quiet o r go = subst (λ tr. Agrees p.waiting (λ _. tr) (checked s b c o) (on_bench p b c r)) (either-none (ltb b s.boards && ltb c (cells_of s))) (on_bench none o r go)
+  on_quiet o r go = subst (λ tr. Agrees p.waiting (λ _. tr) (checked s b c o) (on_bench p b c r)) (either-none (ltb b s.boards && ltb c (cells_of s))) (bench-agrees none o r go)
 
   module _ (on : On s b c) where
     -- an entry is put, stored or there already
@@ -254,8 +254,8 @@ module _ (s : State) (p : Plain) (sound : Sound s) (like : Like s p) where
       on_quiet s p sound like b c _ _
       (λ on. subst (λ o. Agrees p.waiting (λ _. none) (bench.acquire s b c (owner_of s c)) (acquire p b c o)) (sym (like.owner c)) (acquires s p sound like b c on (owner_of s c)))
   agrees k (Step.Release b c) = on_quiet s p sound like b c _ _ (releases s p sound like b c)
-  agrees k (Step.WriteBack b c) = on_bench s p sound like b c _ _ _ (λ on. by-entry b c (sent_from b c) _ (write_back p b c) (writes_back s p sound like b c on ((project c s).entry b) refl))
-  agrees k (Step.Eject b c) = on_bench s p sound like b c _ _ _ (λ on. by-entry b c (sent_from b c) _ (eject p b c) (ejects s p sound like b c on ((project c s).entry b) refl))
+  agrees k (Step.WriteBack b c) = bench-agrees s p sound like b c _ _ _ (λ on. by-entry b c (sent_from b c) _ (write_back p b c) (writes_back s p sound like b c on ((project c s).entry b) refl))
+  agrees k (Step.Eject b c) = bench-agrees s p sound like b c _ _ _ (λ on. by-entry b c (sent_from b c) _ (eject p b c) (ejects s p sound like b c on ((project c s).entry b) refl))
   agrees k Step.Land =
       subst (λ n. Agrees p.waiting landed_in (bench.step k s Step.Land) (cond (ltb 0 n) (land p p.waiting) (plain.refuse Refusal.NoSuchBoard p))) (sym like.boards)
       (by (ltb 0 s.boards))
