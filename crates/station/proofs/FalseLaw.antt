@@ -25,9 +25,9 @@ use Rattle.station.specs.Tasks.{task_of}
 use Rattle.text.specs.Heading.{starting_words}
 use Rattle.station.specs.Verdicts.{accepted, found, task_answer, history_after, ended, resumed, judged_to, verdict_for, verdict_of}
 use Rattle.station.specs.Laws.{event_in, events_of, read_step, FirstFalse, FalseExactly}
-use Rattle.station.proofs.LogLaws.{From, runs-there, runs_back}
-use Rattle.station.proofs.StepLaws.{Fine, Runs, done, step, never, after-there, standing-there, step-there, step_back, standing_on, boards-on, one_more}
-use Rattle.station.proofs.ZeroLaw.{Read, read, long, start}
+use Rattle.station.proofs.LogLaws.{runs-there, runs_back}
+use Rattle.station.proofs.StepLaws.{Runs, done, step, never, after-there, standing-there, step-there, step_back, standing_on, boards-on, one_more}
+use Rattle.station.proofs.ZeroLaw.{read, long, start}
 
 -- after the events h
 record FalseFrom (H : Header) (h : List Event) (ps : List PlacedStep) (n : ℕ) : Type 0 where

@@ -1,5 +1,5 @@
 -- The steps of a text: each stands on a line from 1 on, and there are at most 2,048.
-use Rattle.std.proofs.Common.{◌≡◌, ℕ, ◌+◌, ◌<◌, ◌≤◌, ltb, List, [], ◌∷◌, length, Some, None, Ok, Err, codes, Option, Result, sym, refl, ap, arith}
+use Rattle.std.proofs.Common.{◌≡◌, ℕ, ◌+◌, ◌<◌, ◌≤◌, ltb, List, [], ◌∷◌, length, Ok, Err, codes, Option, Result, sym, refl, ap, arith}
 use Rattle.std.specs.List.{AllByRecursion}
 use Rattle.std.proofs.lemmas.Bool.{cond_both}
 use Rattle.model.specs.declared.refusal.Refusal.{Refusal}
@@ -18,7 +18,7 @@ use Rattle.text.specs.Faults.{fault_at, at_line}
 use Rattle.text.specs.Heading.{kind_line, number_line, and_next, heading}
 use Rattle.text.specs.Lines.{lines}
 use Rattle.text.specs.Reading.{opening, course_after, course_in, header_in}
-use Rattle.text.specs.Telling.{Told, Left, told, left_from, answered, taking, taken}
+use Rattle.text.specs.Telling.{Told, Left, told, left_from, answered, taking}
 use Rattle.text.proofs.Steps.{step_room}
 
 abbrev Lined : Told → Type 0

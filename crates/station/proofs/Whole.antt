@@ -6,8 +6,7 @@ use Rattle.grammar.specs.declared.kind.Kind.TheVariants.{Log}
 use Rattle.text.specs.declared.fault.Fault.{Fault}
 use Rattle.text.specs.declared.header.Header.{Header}
 use Rattle.text.specs.declared.placed_step.PlacedStep.{PlacedStep}
-use Rattle.text.specs.Course.{Course}
-use Rattle.text.specs.Reading.{header_in, course_in, ended, complete, reading, header_of}
+use Rattle.text.specs.Reading.{header_in, course_in, complete, reading, header_of}
 use Rattle.text.specs.Printing.{InRange}
 use Rattle.text.proofs.Headers.{header-in-range}
 use Rattle.station.specs.declared.verdict.Verdict.TheVariants.{AllLegal}

@@ -1,5 +1,5 @@
 -- The number of a verdict is 0 exactly if the text is a log without a fault and all of its reads are legal.
-use Rattle.std.proofs.Common.{◌≡◌, ℕ, ◌+◌, ◌*◌, ◌<◌, ◌≤◌, Bool, true, false, List, [], ◌∷◌, length, get_or, replicate, Some, None, Ok, Err, Option, Result, sym, refl, ap, ◌∙◌, subst, arith}
+use Rattle.std.proofs.Common.{◌≡◌, ℕ, ◌<◌, ◌≤◌, Bool, true, false, List, [], ◌∷◌, length, get_or, Some, None, Ok, Err, Option, Result, refl, ap, ◌∙◌, subst, arith}
 use lib.ListN.{length-replicate, get_or-replicate}
 use Rattle.std.specs.List.{AllByRecursion}
 use Rattle.model.specs.Refusals.{number_of}
@@ -11,7 +11,6 @@ use Rattle.grammar.specs.declared.kind.Kind.TheVariants.{Log}
 use Rattle.text.specs.declared.fault.Fault.{Fault}
 use Rattle.text.specs.declared.header.Header.{Header}
 use Rattle.text.specs.declared.placed_step.PlacedStep.{PlacedStep}
-use Rattle.text.specs.Course.{Course}
 use Rattle.text.specs.Reading.{Trace, header_in, course_in, complete, reading}
 use Rattle.text.specs.Printing.{InRange}
 use Rattle.text.proofs.Headers.{header-in-range}
@@ -19,11 +18,11 @@ use Rattle.station.specs.declared.verdict.Verdict.{Verdict}
 use Rattle.station.specs.declared.verdict.Verdict.TheVariants.{AllLegal, FalseRead, Faulty}
 use Rattle.station.specs.Tasks.{task_of}
 use Rattle.text.specs.Heading.{starting_words}
-use Rattle.station.specs.Verdicts.{task_answer, history_after, ended, resumed, judged_to, verdict_for, verdict_number, verdict_of, number_on}
+use Rattle.station.specs.Verdicts.{task_answer, history_after, ended, resumed, judged_to, verdict_for, verdict_number, number_on}
 use Rattle.station.specs.Laws.{AllReadsLegal, ZeroExactly}
 use Rattle.station.proofs.Lines.{OnLine, steps-placed}
-use Rattle.station.proofs.LogLaws.{From, runs-there, runs_back}
-use Rattle.station.proofs.StepLaws.{Runs, never, judged-there, judged-back}
+use Rattle.station.proofs.LogLaws.{runs-there, runs_back}
+use Rattle.station.proofs.StepLaws.{never, judged-there, judged-back}
 
 -- ── only one verdict has the number 0 ──
 
