@@ -9,10 +9,9 @@ fn zero_exactly()
     ensures { ZeroExactly }
 {}
 
-// For C: takes the log's bytes as a pointer and a length. 0 if all reads of the log are legal, or the line of the first
-// that is not, or 1,000,000 times the number of a refusal and the line of the fault.
-#[unsafe(no_mangle)]
-pub extern "C" fn bench_verdict(log: &[u8]) -> u64
+// 0 if all reads of the log are legal, or the line of the first that is not, or 1,000,000 times the number of a refusal
+// and the line of the fault. The crate station_c hands this call to C.
+pub fn bench_verdict(log: &[u8]) -> u64
     ensures number { result ≡ number_on log.now }
     ensures law { ZeroExactly }
 {
