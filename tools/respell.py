@@ -2,8 +2,8 @@
 """Brings the repository's own words of specs/ and proofs/ to snake case: run once, at the top, after the toolchain's port.py.
 
 Words in lowerCamelCase, and fields and constructors with a dash, get underscores, in antt files, in clauses, and in edits.
-Functions of src/ have snake case already; strings, inputs and outputs are left alone. It stops if two words of one file
-would become one.
+Functions of src/ have snake case already; inputs and outputs are left alone. It tells where two words of one file become
+one.
 """
 import glob
 import re
