@@ -8,21 +8,20 @@ use std::alloc::{AllocError, Global};
 use text::fault::Fault;
 
 // One line more.
-fn add(out: &mut String, line: Line) -> Result<(), AllocError>
+fn add(heap: Global, out: &mut String, line: Line) -> Result<(), AllocError>
     ensures { OnOk result (string_bytes out.new ≡ string_bytes out.old ++ (line_text line ++ 10 ∷ [])) }
 {
-    match writeln!(out, "{line}") {
-        Ok(()) => Ok(()),
-        Err(_) => Err(AllocError),
-    }
+    let text = format!(in heap; "{line}\n")?;
+    out.push_str(text.as_str())
 }
 
 // A line for each answer; the first is that of step 1.
-fn add_answers(out: &mut String, answers: &[Answer]) -> Result<(), AllocError>
+fn add_answers(heap: Global, out: &mut String, answers: &[Answer]) -> Result<(), AllocError>
     ensures { OnOk result (string_bytes out.new ≡ string_bytes out.old ++ text_of (answer_lines 1 answers.now)) }
 {
     for (i, answer) in answers.iter().enumerate() {
         add(
+            heap,
             out,
             Line::Answered {
                 step: i + 1,
@@ -42,8 +41,8 @@ pub(crate) fn run_text(
     ensures { IfOk result (λ t. string_bytes t ≡ text_of (answer_lines 1 answers.now ++ legal_line wrong ∷ [])) }
 {
     let mut out = String::new(heap);
-    add_answers(&mut out, answers)?;
-    add(&mut out, Line::FirstWrong(wrong))?;
+    add_answers(heap, &mut out, answers)?;
+    add(heap, &mut out, Line::FirstWrong(wrong))?;
     Ok(out)
 }
 
@@ -52,6 +51,6 @@ pub(crate) fn fault_text(heap: Global, fault: Fault) -> Result<String, AllocErro
     ensures { IfOk result (λ t. string_bytes t ≡ text_of (fault_line fault ∷ [])) }
 {
     let mut out = String::new(heap);
-    add(&mut out, Line::Faulty(fault))?;
+    add(heap, &mut out, Line::Faulty(fault))?;
     Ok(out)
 }
