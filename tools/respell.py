@@ -1,5 +1,6 @@
 #!/usr/bin/env python3
-"""Brings the repository's own words of specs/ and proofs/ to snake case: run once, at the top, after the toolchain's port.py.
+"""Brings the repository's own words of specs/ and proofs/ to snake case: run once, at the top, after the toolchain's
+port.py.
 
 Words in lowerCamelCase, and fields and constructors with a dash, get underscores, in antt files, in clauses, and in edits.
 Functions of src/ have snake case already; inputs and outputs are left alone. It tells where two words of one file become
@@ -12,7 +13,13 @@ import sys
 WORD = re.compile(r"[A-Za-z_λ][\w'\-]*")
 # parts of names that the check makes from a variant of the code
 MADE = "WriteBack"
-GLOBS = ["crates/*/specs/**/*.antt", "crates/*/proofs/**/*.antt", "crates/*/src/**/*.rt", "crates/*/must-fail/*.edit", "planted/**/*.edit"]
+GLOBS = [
+    "crates/*/specs/**/*.antt",
+    "crates/*/proofs/**/*.antt",
+    "crates/*/src/**/*.rt",
+    "crates/*/must-fail/*.edit",
+    "planted/**/*.edit",
+]
 
 
 def snake(word):

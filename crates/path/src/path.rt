@@ -2,6 +2,7 @@ ghost use Rattle.std.specs.Prelude.{◌≡◌, ℕ, ◌≤◌, false, List, is_s
 ghost use Rattle.model.specs.declared.carry.Carry.{Carry};
 ghost use Rattle.carries.specs.Lines.{start_at, started, newest_at, count_at, Landed, Proper};
 
+// A path serves so many boards and cells, and its lines have this length at most: the limits of the lines of carries.
 pub use carries::limits::{BOARDS, CELLS, LONGEST_LINE};
 use model::carry::Carry;
 use model::refusal::Refusal;
