@@ -1,2 +1,4 @@
+pub mod Answers
 pub mod Refusals
 pub mod Search
+pub mod Steps

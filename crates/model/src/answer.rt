@@ -11,3 +11,47 @@ pub enum Answer {
     Done,
     Refused(Refusal),
 }
+
+// What one call of a bench answers is answered to a step of that name.
+impl From<Result<(), Refusal>> for Answer {
+    ghost use Rattle.std.specs.Prelude.{◌≡◌};
+    ghost use Rattle.model.specs.Answers.{done_answer};
+
+    ghost from_gives = { λ r a. a ≡ done_answer r };
+
+    fn from(answer: Result<(), Refusal>) -> Answer {
+        match answer {
+            Ok(()) => Answer::Done,
+            Err(refusal) => Answer::Refused(refusal),
+        }
+    }
+}
+
+impl From<Result<u32, Refusal>> for Answer {
+    ghost use Rattle.std.specs.Prelude.{◌≡◌};
+    ghost use Rattle.model.specs.Answers.{word_answer};
+
+    ghost from_gives = { λ r a. a ≡ word_answer r };
+
+    fn from(answer: Result<u32, Refusal>) -> Answer {
+        match answer {
+            Ok(word) => Answer::Word(word),
+            Err(refusal) => Answer::Refused(refusal),
+        }
+    }
+}
+
+impl From<Result<Option<Carry>, Refusal>> for Answer {
+    ghost use Rattle.std.specs.Prelude.{◌≡◌};
+    ghost use Rattle.model.specs.Answers.{land_answer};
+
+    ghost from_gives = { λ r a. a ≡ land_answer r };
+
+    fn from(answer: Result<Option<Carry>, Refusal>) -> Answer {
+        match answer {
+            Ok(Some(carry)) => Answer::Landed(carry),
+            Ok(None) => Answer::NothingWaits,
+            Err(refusal) => Answer::Refused(refusal),
+        }
+    }
+}

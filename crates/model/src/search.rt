@@ -18,17 +18,14 @@ pub trait Located {
 fn is_of<R: Located>(it: &R, board: u32, cell: u32) -> bool
     ensures { result ≡ is_of R.Located.board_of R.Located.cell_of board cell it.now }
 {
-    (it.board() == board) & (it.cell() == cell)
+    it.board() == board && it.cell() == cell
 }
 
 // The place of the newest record of a board and a cell, in a list that has the oldest first.
 pub fn newest<R: Located>(records: &[R], board: u32, cell: u32) -> Option<usize>
     ensures { result ≡ last_place (is_of R.Located.board_of R.Located.cell_of board cell) records.now }
 {
-    for i in (0..records.len()).rev() {
-        if is_of(&records[i], board, cell) {
-            return Some(i);
-        }
-    }
-    None
+    records
+        .iter()
+        .rposition(|record| is_of(record, board, cell))
 }
