@@ -2,7 +2,7 @@ use super::carry::Carry;
 use super::refusal::Refusal;
 
 // What a step of a run answers: the word read, the write back that landed or that none waits, that it is done, or why
-// it is refused.
+// it is refused. No `Result` of four answers: the five stand in one list of a run, and each is told in a form of its own.
 #[derive(Clone, Copy, PartialEq, Eq, Debug)]
 pub enum Answer {
     Word(u32),

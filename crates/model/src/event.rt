@@ -18,6 +18,7 @@ pub struct Event {
     pub action: Action,
 }
 
+// Carry's impl reads alike: five lines each are plainer than a struct in both that would hold the board and the cell.
 impl Located for Event {
     ghost board_of = { λ x. x.board };
 
