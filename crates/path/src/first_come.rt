@@ -32,8 +32,6 @@ impl Path for FirstCome {
 
     ghost LENGTH = { 8 };
 
-    ghost long = { 8 };
-
     ghost lines = { λ p. lines_in p.waiting };
 
     ghost starts = { λ p x q. StartsLast p.waiting x q.waiting };
@@ -44,10 +42,7 @@ impl Path for FirstCome {
 
     ghost proper = { λ p. ByBoard.proper 8 (held p.waiting) p.waiting.located p.waiting.short };
 
-    fn capacity() -> u32
-        ensures value { result ≡ 8 }
-        ensures constant { result ≡ ⟦<Self as Path>⟧.LENGTH }
-    {
+    fn capacity() -> u32 {
         Self::LENGTH
     }
 

@@ -17,9 +17,6 @@ pub trait Path {
     // The constant, as clauses name it.
     ghost LENGTH: { ℕ };
 
-    // The same number, by which the contracts speak of it.
-    ghost long: { ℕ };
-
     // The eight lines, by board.
     ghost lines: { Self → List (List Carry) };
 
@@ -31,14 +28,14 @@ pub trait Path {
     // A landing: the path before, the answer, and the path after.
     ghost lands: { Self → Option Carry → Self → Type 0 };
 
-    // LENGTH, as a call whose contract ties it to `long`.
+    // The constant, as a call.
     fn capacity() -> u32
-        ensures { result ≡ long };
+        ensures { result ≡ LENGTH };
 
     // Starts a carry: it joins its board's line. A refusal leaves the path as it is.
     fn start(&mut self, carry: Carry) -> Result<(), Refusal>
-        ensures answer { result ≡ start_at long (lines self.old) carry }
-        ensures after { lines self.new ≡ started long (lines self.old) carry }
+        ensures answer { result ≡ start_at LENGTH (lines self.old) carry }
+        ensures after { lines self.new ≡ started LENGTH (lines self.old) carry }
         ensures own { starts self.old carry self.new }
         ensures refused { is_ok result ≡ false → self.new ≡ self.old };
 
@@ -56,7 +53,7 @@ pub trait Path {
     fn count(&self, board: u32) -> Result<u32, Refusal>
         ensures { result ≡ count_at (lines self.now) board };
 
-    ghost bounded: { (1 ≤ long) × (long ≤ 8) };
+    ghost bounded: { (1 ≤ LENGTH) × (LENGTH ≤ 8) };
 
-    ghost proper: { (p : Self) → Proper long (lines p) };
+    ghost proper: { (p : Self) → Proper LENGTH (lines p) };
 }

@@ -7,7 +7,7 @@ use super::path::Path;
 use model::refusal::Refusal;
 
 fn perform<P: Path>(path: &mut P, order: Order) -> Reply
-    ensures { Takes P.Path.long (P.Path.lines path.old) order result (P.Path.lines path.new) }
+    ensures { Takes P.Path.LENGTH (P.Path.lines path.old) order result (P.Path.lines path.new) }
 {
     match order {
         Order::Start(carry) => match path.start(carry) {
@@ -23,7 +23,7 @@ fn perform<P: Path>(path: &mut P, order: Order) -> Reply
 
 fn perform_all<P: Path>(path: &mut P, orders: &[Order], replies: &mut [Reply])
     requires { length orders.now ≤ length replies.old }
-    ensures { Ran P.Path.long (P.Path.lines path.old) orders.now replies.old replies.new (P.Path.lines path.new) }
+    ensures { Ran P.Path.LENGTH (P.Path.lines path.old) orders.now replies.old replies.new (P.Path.lines path.new) }
 {
     for (i, order) in orders.iter().enumerate() {
         replies[i] = perform(path, *order);
@@ -33,7 +33,7 @@ fn perform_all<P: Path>(path: &mut P, orders: &[Order], replies: &mut [Reply])
 // Gives a path of any kind each order in turn and writes down its replies, if there is a place for each.
 pub fn run<P: Path>(path: &mut P, orders: &[Order], replies: &mut [Reply]) -> Result<(), Refusal>
     ensures answer { result ≡ (if nat_lt (length replies.old) (length orders.now) then Err AnswersTooShort else Ok tt) }
-    ensures ran { is_ok result ≡ true → Ran P.Path.long (P.Path.lines path.old) orders.now replies.old replies.new (P.Path.lines path.new) }
+    ensures ran { is_ok result ≡ true → Ran P.Path.LENGTH (P.Path.lines path.old) orders.now replies.old replies.new (P.Path.lines path.new) }
     ensures refused { is_ok result ≡ false → (path.new ≡ path.old) × (replies.new ≡ replies.old) }
 {
     if replies.len() < orders.len() {

@@ -122,8 +122,6 @@ impl Path for Rota {
 
     ghost LENGTH = { 4 };
 
-    ghost long = { 4 };
-
     ghost lines = { λ p. lines_in p.waiting };
 
     ghost starts = { λ p x q. StartsInLine (lines_in p.waiting) p.turn x (lines_in q.waiting) q.turn };
@@ -134,10 +132,7 @@ impl Path for Rota {
 
     ghost proper = { λ p. ByBoard.proper 4 (held p.waiting) p.waiting.located p.short };
 
-    fn capacity() -> u32
-        ensures value { result ≡ 4 }
-        ensures constant { result ≡ ⟦<Self as Path>⟧.LENGTH }
-    {
+    fn capacity() -> u32 {
         Self::LENGTH
     }
 

@@ -25,8 +25,8 @@ fn run_on<H: Home, P: Path>(
     steps: &[Step],
     answers: &mut [Answer],
 ) -> Replayed<H, P>
-    ensures run { Ran (state_of H.Source.words P.Path.lines P.Path.long bench) steps.now answers.old result.result answers.new (state_of H.Source.words P.Path.lines P.Path.long result.bench) }
-    ensures path { Went P.Path.starts P.Path.lands (state_of H.Source.words P.Path.lines P.Path.long bench) bench.path steps.now result.result answers.new (state_of H.Source.words P.Path.lines P.Path.long result.bench) result.bench.path }
+    ensures run { Ran (state_of H.Source.words P.Path.lines P.Path.LENGTH bench) steps.now answers.old result.result answers.new (state_of H.Source.words P.Path.lines P.Path.LENGTH result.bench) }
+    ensures path { Went P.Path.starts P.Path.lands (state_of H.Source.words P.Path.lines P.Path.LENGTH bench) bench.path steps.now result.result answers.new (state_of H.Source.words P.Path.lines P.Path.LENGTH result.bench) result.bench.path }
 {
     let result = bench.run(steps, answers);
     Replayed { bench, result }
@@ -42,9 +42,9 @@ pub fn replay<H: Home, P: Path>(
     steps: &[Step],
     answers: &mut [Answer],
 ) -> Replayed<H, P>
-    ensures run { Ran (opened boards entries (H.Source.words home) (P.Path.lines path) P.Path.long) steps.now answers.old result.result answers.new (state_of H.Source.words P.Path.lines P.Path.long result.bench) }
-    ensures path { Went P.Path.starts P.Path.lands (opened boards entries (H.Source.words home) (P.Path.lines path) P.Path.long) path steps.now result.result answers.new (state_of H.Source.words P.Path.lines P.Path.long result.bench) result.bench.path }
-    ensures model { KeepsModel (opened boards entries (H.Source.words home) (P.Path.lines path) P.Path.long) (ran_onto result.result [] steps.now answers.new) }
+    ensures run { Ran (opened boards entries (H.Source.words home) (P.Path.lines path) P.Path.LENGTH) steps.now answers.old result.result answers.new (state_of H.Source.words P.Path.lines P.Path.LENGTH result.bench) }
+    ensures path { Went P.Path.starts P.Path.lands (opened boards entries (H.Source.words home) (P.Path.lines path) P.Path.LENGTH) path steps.now result.result answers.new (state_of H.Source.words P.Path.lines P.Path.LENGTH result.bench) result.bench.path }
+    ensures model { KeepsModel (opened boards entries (H.Source.words home) (P.Path.lines path) P.Path.LENGTH) (ran_onto result.result [] steps.now answers.new) }
     ensures rules { RulesOfBench }
 {
     run_on(Bench::open(boards, entries, home, path), steps, answers)

@@ -19,8 +19,8 @@ use path::path::Path;
 impl<H: Home, P: Path> Bench<H, P> {
     // A cached word, or else the newest of the board's own lane, or else the home's, which is then cached clean.
     pub fn read(&mut self, board: u32, cell: u32) -> Result<u32, Refusal>
-        ensures step { Takes (state_of H.Source.words P.Path.lines P.Path.long self.old) (Read board cell) (word_answer result) (state_of H.Source.words P.Path.lines P.Path.long self.new) }
-        ensures path { Carries P.Path.starts P.Path.lands self.old.path (traffic_of (state_of H.Source.words P.Path.lines P.Path.long self.old) (Read board cell) (word_answer result)) self.new.path }
+        ensures step { Takes (state_of H.Source.words P.Path.lines P.Path.LENGTH self.old) (Read board cell) (word_answer result) (state_of H.Source.words P.Path.lines P.Path.LENGTH self.new) }
+        ensures path { Carries P.Path.starts P.Path.lands self.old.path (traffic_of (state_of H.Source.words P.Path.lines P.Path.LENGTH self.old) (Read board cell) (word_answer result)) self.new.path }
         ensures refused { is_ok result ≡ false → self.new ≡ self.old }
     {
         self.checked(board, cell)?;
@@ -30,8 +30,8 @@ impl<H: Home, P: Path> Bench<H, P> {
 
     // The word goes into the board's cache and no further; its entry is dirty.
     pub fn write(&mut self, board: u32, cell: u32, word: u32) -> Result<(), Refusal>
-        ensures step { Takes (state_of H.Source.words P.Path.lines P.Path.long self.old) (Write board cell word) (done_answer result) (state_of H.Source.words P.Path.lines P.Path.long self.new) }
-        ensures path { Carries P.Path.starts P.Path.lands self.old.path (traffic_of (state_of H.Source.words P.Path.lines P.Path.long self.old) (Write board cell word) (done_answer result)) self.new.path }
+        ensures step { Takes (state_of H.Source.words P.Path.lines P.Path.LENGTH self.old) (Write board cell word) (done_answer result) (state_of H.Source.words P.Path.lines P.Path.LENGTH self.new) }
+        ensures path { Carries P.Path.starts P.Path.lands self.old.path (traffic_of (state_of H.Source.words P.Path.lines P.Path.LENGTH self.old) (Write board cell word) (done_answer result)) self.new.path }
         ensures refused { is_ok result ≡ false → self.new ≡ self.old }
     {
         self.checked(board, cell)?;
@@ -41,8 +41,8 @@ impl<H: Home, P: Path> Bench<H, P> {
 
     // The board becomes the owner of a cell that has none; what it has clean of the cell, it forgets.
     pub fn acquire(&mut self, board: u32, cell: u32) -> Result<(), Refusal>
-        ensures step { Takes (state_of H.Source.words P.Path.lines P.Path.long self.old) (Acquire board cell) (done_answer result) (state_of H.Source.words P.Path.lines P.Path.long self.new) }
-        ensures path { Carries P.Path.starts P.Path.lands self.old.path (traffic_of (state_of H.Source.words P.Path.lines P.Path.long self.old) (Acquire board cell) (done_answer result)) self.new.path }
+        ensures step { Takes (state_of H.Source.words P.Path.lines P.Path.LENGTH self.old) (Acquire board cell) (done_answer result) (state_of H.Source.words P.Path.lines P.Path.LENGTH self.new) }
+        ensures path { Carries P.Path.starts P.Path.lands self.old.path (traffic_of (state_of H.Source.words P.Path.lines P.Path.LENGTH self.old) (Acquire board cell) (done_answer result)) self.new.path }
         ensures refused { is_ok result ≡ false → self.new ≡ self.old }
     {
         self.checked(board, cell)?;
@@ -52,8 +52,8 @@ impl<H: Home, P: Path> Bench<H, P> {
 
     // The owner gives the cell back, once all that it wrote to it has reached the memory.
     pub fn release(&mut self, board: u32, cell: u32) -> Result<(), Refusal>
-        ensures step { Takes (state_of H.Source.words P.Path.lines P.Path.long self.old) (Release board cell) (done_answer result) (state_of H.Source.words P.Path.lines P.Path.long self.new) }
-        ensures path { Carries P.Path.starts P.Path.lands self.old.path (traffic_of (state_of H.Source.words P.Path.lines P.Path.long self.old) (Release board cell) (done_answer result)) self.new.path }
+        ensures step { Takes (state_of H.Source.words P.Path.lines P.Path.LENGTH self.old) (Release board cell) (done_answer result) (state_of H.Source.words P.Path.lines P.Path.LENGTH self.new) }
+        ensures path { Carries P.Path.starts P.Path.lands self.old.path (traffic_of (state_of H.Source.words P.Path.lines P.Path.LENGTH self.old) (Release board cell) (done_answer result)) self.new.path }
         ensures refused { is_ok result ≡ false → self.new ≡ self.old }
     {
         self.checked(board, cell)?;
@@ -62,8 +62,8 @@ impl<H: Home, P: Path> Bench<H, P> {
 
     // A dirty word is sent to the memory; the entry stays, clean.
     pub fn write_back(&mut self, board: u32, cell: u32) -> Result<(), Refusal>
-        ensures step { Takes (state_of H.Source.words P.Path.lines P.Path.long self.old) (WriteBack board cell) (done_answer result) (state_of H.Source.words P.Path.lines P.Path.long self.new) }
-        ensures path { Carries P.Path.starts P.Path.lands self.old.path (traffic_of (state_of H.Source.words P.Path.lines P.Path.long self.old) (WriteBack board cell) (done_answer result)) self.new.path }
+        ensures step { Takes (state_of H.Source.words P.Path.lines P.Path.LENGTH self.old) (WriteBack board cell) (done_answer result) (state_of H.Source.words P.Path.lines P.Path.LENGTH self.new) }
+        ensures path { Carries P.Path.starts P.Path.lands self.old.path (traffic_of (state_of H.Source.words P.Path.lines P.Path.LENGTH self.old) (WriteBack board cell) (done_answer result)) self.new.path }
         ensures refused { is_ok result ≡ false → self.new ≡ self.old }
     {
         self.checked(board, cell)?;
@@ -73,8 +73,8 @@ impl<H: Home, P: Path> Bench<H, P> {
 
     // The cell's place becomes empty; a dirty word is sent to the memory first.
     pub fn eject(&mut self, board: u32, cell: u32) -> Result<(), Refusal>
-        ensures step { Takes (state_of H.Source.words P.Path.lines P.Path.long self.old) (Eject board cell) (done_answer result) (state_of H.Source.words P.Path.lines P.Path.long self.new) }
-        ensures path { Carries P.Path.starts P.Path.lands self.old.path (traffic_of (state_of H.Source.words P.Path.lines P.Path.long self.old) (Eject board cell) (done_answer result)) self.new.path }
+        ensures step { Takes (state_of H.Source.words P.Path.lines P.Path.LENGTH self.old) (Eject board cell) (done_answer result) (state_of H.Source.words P.Path.lines P.Path.LENGTH self.new) }
+        ensures path { Carries P.Path.starts P.Path.lands self.old.path (traffic_of (state_of H.Source.words P.Path.lines P.Path.LENGTH self.old) (Eject board cell) (done_answer result)) self.new.path }
         ensures refused { is_ok result ≡ false → self.new ≡ self.old }
     {
         self.checked(board, cell)?;
@@ -84,8 +84,8 @@ impl<H: Home, P: Path> Bench<H, P> {
 
     // One write back reaches the memory, which one is the path's choice; or none waits.
     pub fn land(&mut self) -> Result<Option<Carry>, Refusal>
-        ensures step { Takes (state_of H.Source.words P.Path.lines P.Path.long self.old) Land (land_answer result) (state_of H.Source.words P.Path.lines P.Path.long self.new) }
-        ensures path { Carries P.Path.starts P.Path.lands self.old.path (traffic_of (state_of H.Source.words P.Path.lines P.Path.long self.old) Land (land_answer result)) self.new.path }
+        ensures step { Takes (state_of H.Source.words P.Path.lines P.Path.LENGTH self.old) Land (land_answer result) (state_of H.Source.words P.Path.lines P.Path.LENGTH self.new) }
+        ensures path { Carries P.Path.starts P.Path.lands self.old.path (traffic_of (state_of H.Source.words P.Path.lines P.Path.LENGTH self.old) Land (land_answer result)) self.new.path }
         ensures refused { is_ok result ≡ false → self.new ≡ self.old }
     {
         if self.boards == 0 {
@@ -103,10 +103,10 @@ impl<H: Home, P: Path> Bench<H, P> {
     // Any of the seven steps. At every cell it is the protocol's move of that name, or none; whatever the bench is, it is
     // sound before and after. The path changes by what the step sends to it or lands from it, and not otherwise.
     pub fn perform(&mut self, step: Step) -> Answer
-        ensures step { Takes (state_of H.Source.words P.Path.lines P.Path.long self.old) step result (state_of H.Source.words P.Path.lines P.Path.long self.new) }
-        ensures protocol { Follows (state_of H.Source.words P.Path.lines P.Path.long self.old) step result (state_of H.Source.words P.Path.lines P.Path.long self.new) }
-        ensures sound { Sound (state_of H.Source.words P.Path.lines P.Path.long self.old) × Sound (state_of H.Source.words P.Path.lines P.Path.long self.new) }
-        ensures path { Carries P.Path.starts P.Path.lands self.old.path (traffic_of (state_of H.Source.words P.Path.lines P.Path.long self.old) step result) self.new.path }
+        ensures step { Takes (state_of H.Source.words P.Path.lines P.Path.LENGTH self.old) step result (state_of H.Source.words P.Path.lines P.Path.LENGTH self.new) }
+        ensures protocol { Follows (state_of H.Source.words P.Path.lines P.Path.LENGTH self.old) step result (state_of H.Source.words P.Path.lines P.Path.LENGTH self.new) }
+        ensures sound { Sound (state_of H.Source.words P.Path.lines P.Path.LENGTH self.old) × Sound (state_of H.Source.words P.Path.lines P.Path.LENGTH self.new) }
+        ensures path { Carries P.Path.starts P.Path.lands self.old.path (traffic_of (state_of H.Source.words P.Path.lines P.Path.LENGTH self.old) step result) self.new.path }
         ensures refused { is_refused result ≡ true → self.new ≡ self.old }
     {
         match step {

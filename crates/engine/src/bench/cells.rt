@@ -17,8 +17,8 @@ use path::path::Path;
 // The steps on a board and a cell that the bench has.
 impl<H: Home, P: Path> Bench<H, P> {
     pub(crate) fn read_entry(&mut self, board: u32, cell: u32, entry: Entry) -> Result<u32, Refusal>
-        requires { checks (state_of H.Source.words P.Path.lines P.Path.long self.old) board cell ≡ Ok tt }
-        ensures step { TakesBy (λ k. read k (state_of H.Source.words P.Path.lines P.Path.long self.old) board cell entry) (word_answer result) (state_of H.Source.words P.Path.lines P.Path.long self.new) }
+        requires { checks (state_of H.Source.words P.Path.lines P.Path.LENGTH self.old) board cell ≡ Ok tt }
+        ensures step { TakesBy (λ k. read k (state_of H.Source.words P.Path.lines P.Path.LENGTH self.old) board cell entry) (word_answer result) (state_of H.Source.words P.Path.lines P.Path.LENGTH self.new) }
         ensures path { self.new.path ≡ self.old.path }
         ensures refused { is_ok result ≡ false → self.new ≡ self.old }
     {
@@ -37,8 +37,8 @@ impl<H: Home, P: Path> Bench<H, P> {
 
     // A word that was fetched is cached as the memory has it or will have it.
     fn add_clean(&mut self, board: u32, cell: u32, word: u32) -> Result<(), Refusal>
-        requires { checks (state_of H.Source.words P.Path.lines P.Path.long self.old) board cell ≡ Ok tt }
-        ensures added { Added (state_of H.Source.words P.Path.lines P.Path.long self.old) board cell (Clean word) result (state_of H.Source.words P.Path.lines P.Path.long self.new) }
+        requires { checks (state_of H.Source.words P.Path.lines P.Path.LENGTH self.old) board cell ≡ Ok tt }
+        ensures added { Added (state_of H.Source.words P.Path.lines P.Path.LENGTH self.old) board cell (Clean word) result (state_of H.Source.words P.Path.lines P.Path.LENGTH self.new) }
         ensures path { self.new.path ≡ self.old.path }
         ensures refused { is_ok result ≡ false → self.new ≡ self.old }
     {
@@ -52,8 +52,8 @@ impl<H: Home, P: Path> Bench<H, P> {
         word: u32,
         entry: Entry,
     ) -> Result<(), Refusal>
-        requires { checks (state_of H.Source.words P.Path.lines P.Path.long self.old) board cell ≡ Ok tt }
-        ensures step { TakesBy (λ k. write k (state_of H.Source.words P.Path.lines P.Path.long self.old) board cell word entry) (done_answer result) (state_of H.Source.words P.Path.lines P.Path.long self.new) }
+        requires { checks (state_of H.Source.words P.Path.lines P.Path.LENGTH self.old) board cell ≡ Ok tt }
+        ensures step { TakesBy (λ k. write k (state_of H.Source.words P.Path.lines P.Path.LENGTH self.old) board cell word entry) (done_answer result) (state_of H.Source.words P.Path.lines P.Path.LENGTH self.new) }
         ensures path { self.new.path ≡ self.old.path }
         ensures refused { is_ok result ≡ false → self.new ≡ self.old }
     {
@@ -68,8 +68,8 @@ impl<H: Home, P: Path> Bench<H, P> {
 
     // A word that was written is in no other place yet.
     fn add_dirty(&mut self, board: u32, cell: u32, word: u32) -> Result<(), Refusal>
-        requires { checks (state_of H.Source.words P.Path.lines P.Path.long self.old) board cell ≡ Ok tt }
-        ensures added { Added (state_of H.Source.words P.Path.lines P.Path.long self.old) board cell (Dirty word) result (state_of H.Source.words P.Path.lines P.Path.long self.new) }
+        requires { checks (state_of H.Source.words P.Path.lines P.Path.LENGTH self.old) board cell ≡ Ok tt }
+        ensures added { Added (state_of H.Source.words P.Path.lines P.Path.LENGTH self.old) board cell (Dirty word) result (state_of H.Source.words P.Path.lines P.Path.LENGTH self.new) }
         ensures path { self.new.path ≡ self.old.path }
         ensures refused { is_ok result ≡ false → self.new ≡ self.old }
     {
@@ -82,7 +82,7 @@ impl<H: Home, P: Path> Bench<H, P> {
         cell: u32,
         owner: Option<u32>,
     ) -> Result<(), Refusal>
-        ensures step { acquire (state_of H.Source.words P.Path.lines P.Path.long self.old) board cell owner ≡ Some (done_answer result, (state_of H.Source.words P.Path.lines P.Path.long self.new)) }
+        ensures step { acquire (state_of H.Source.words P.Path.lines P.Path.LENGTH self.old) board cell owner ≡ Some (done_answer result, (state_of H.Source.words P.Path.lines P.Path.LENGTH self.new)) }
         ensures path { self.new.path ≡ self.old.path }
         ensures refused { is_ok result ≡ false → self.new ≡ self.old }
     {
@@ -98,7 +98,7 @@ impl<H: Home, P: Path> Bench<H, P> {
 
     // A clean entry is emptied; a dirty one stays, since the memory lacks its word.
     fn drop_clean(&mut self, board: u32, cell: u32)
-        ensures state { state_of H.Source.words P.Path.lines P.Path.long self.new ≡ dropped (state_of H.Source.words P.Path.lines P.Path.long self.old) board cell (entry_in (cache_of (state_of H.Source.words P.Path.lines P.Path.long self.old) board) cell) }
+        ensures state { state_of H.Source.words P.Path.lines P.Path.LENGTH self.new ≡ dropped (state_of H.Source.words P.Path.lines P.Path.LENGTH self.old) board cell (entry_in (cache_of (state_of H.Source.words P.Path.lines P.Path.LENGTH self.old) board) cell) }
         ensures path { self.new.path ≡ self.old.path }
     {
         match self.entry(board, cell) {
@@ -109,7 +109,7 @@ impl<H: Home, P: Path> Bench<H, P> {
     }
 
     fn owns(&self, board: u32, cell: u32) -> bool
-        ensures { result ≡ is_owner (owner_of (state_of H.Source.words P.Path.lines P.Path.long self.now) cell) board }
+        ensures { result ≡ is_owner (owner_of (state_of H.Source.words P.Path.lines P.Path.LENGTH self.now) cell) board }
     {
         match self.owner(cell) {
             Some(owner) => owner == board,
@@ -118,8 +118,8 @@ impl<H: Home, P: Path> Bench<H, P> {
     }
 
     pub(crate) fn release_cell(&mut self, board: u32, cell: u32) -> Result<(), Refusal>
-        requires { checks (state_of H.Source.words P.Path.lines P.Path.long self.old) board cell ≡ Ok tt }
-        ensures step { release (state_of H.Source.words P.Path.lines P.Path.long self.old) board cell ≡ Some (done_answer result, (state_of H.Source.words P.Path.lines P.Path.long self.new)) }
+        requires { checks (state_of H.Source.words P.Path.lines P.Path.LENGTH self.old) board cell ≡ Ok tt }
+        ensures step { release (state_of H.Source.words P.Path.lines P.Path.LENGTH self.old) board cell ≡ Some (done_answer result, (state_of H.Source.words P.Path.lines P.Path.LENGTH self.new)) }
         ensures path { self.new.path ≡ self.old.path }
         ensures refused { is_ok result ≡ false → self.new ≡ self.old }
     {
@@ -139,7 +139,7 @@ impl<H: Home, P: Path> Bench<H, P> {
         cell: u32,
         entry: Entry,
     ) -> Result<(), Refusal>
-        ensures step { write_back (state_of H.Source.words P.Path.lines P.Path.long self.old) board cell entry ≡ Some (done_answer result, (state_of H.Source.words P.Path.lines P.Path.long self.new)) }
+        ensures step { write_back (state_of H.Source.words P.Path.lines P.Path.LENGTH self.old) board cell entry ≡ Some (done_answer result, (state_of H.Source.words P.Path.lines P.Path.LENGTH self.new)) }
         ensures path { Carries P.Path.starts P.Path.lands self.old.path (sent_from board cell entry) self.new.path }
         ensures refused { is_ok result ≡ false → self.new ≡ self.old }
     {
@@ -152,7 +152,7 @@ impl<H: Home, P: Path> Bench<H, P> {
 
     // The word is on its way, so the entry is clean from here on.
     fn write_back_dirty(&mut self, board: u32, cell: u32, word: u32) -> Result<(), Refusal>
-        ensures step { write_back (state_of H.Source.words P.Path.lines P.Path.long self.old) board cell (Dirty word) ≡ Some (done_answer result, (state_of H.Source.words P.Path.lines P.Path.long self.new)) }
+        ensures step { write_back (state_of H.Source.words P.Path.lines P.Path.LENGTH self.old) board cell (Dirty word) ≡ Some (done_answer result, (state_of H.Source.words P.Path.lines P.Path.LENGTH self.new)) }
         ensures path { P.Path.starts self.old.path (carry_of board cell word) self.new.path }
         ensures refused { is_ok result ≡ false → self.new ≡ self.old }
     {
@@ -160,7 +160,7 @@ impl<H: Home, P: Path> Bench<H, P> {
     }
 
     pub(crate) fn eject_entry(&mut self, board: u32, cell: u32, entry: Entry) -> Result<(), Refusal>
-        ensures step { eject (state_of H.Source.words P.Path.lines P.Path.long self.old) board cell entry ≡ Some (done_answer result, (state_of H.Source.words P.Path.lines P.Path.long self.new)) }
+        ensures step { eject (state_of H.Source.words P.Path.lines P.Path.LENGTH self.old) board cell entry ≡ Some (done_answer result, (state_of H.Source.words P.Path.lines P.Path.LENGTH self.new)) }
         ensures path { Carries P.Path.starts P.Path.lands self.old.path (sent_from board cell entry) self.new.path }
         ensures refused { is_ok result ≡ false → self.new ≡ self.old }
     {
@@ -176,7 +176,7 @@ impl<H: Home, P: Path> Bench<H, P> {
 
     // The memory lacks the word, so it is sent before the place is empty.
     fn eject_dirty(&mut self, board: u32, cell: u32, word: u32) -> Result<(), Refusal>
-        ensures step { eject (state_of H.Source.words P.Path.lines P.Path.long self.old) board cell (Dirty word) ≡ Some (done_answer result, (state_of H.Source.words P.Path.lines P.Path.long self.new)) }
+        ensures step { eject (state_of H.Source.words P.Path.lines P.Path.LENGTH self.old) board cell (Dirty word) ≡ Some (done_answer result, (state_of H.Source.words P.Path.lines P.Path.LENGTH self.new)) }
         ensures path { P.Path.starts self.old.path (carry_of board cell word) self.new.path }
         ensures refused { is_ok result ≡ false → self.new ≡ self.old }
     {

@@ -15,7 +15,7 @@ impl<H: Home, P: Path> Bench<H, P> {
     // path. A refused one has no boards, so that every step of it is refused.
     pub fn open(boards: u32, entries: u32, home: H, path: P) -> Bench<H, P>
         ensures path { result.path ≡ path }
-        ensures state { state_of H.Source.words P.Path.lines P.Path.long result ≡ opened boards entries (H.Source.words home) (P.Path.lines path) P.Path.long }
+        ensures state { state_of H.Source.words P.Path.lines P.Path.LENGTH result ≡ opened boards entries (H.Source.words home) (P.Path.lines path) P.Path.LENGTH }
     {
         match refusal_of(boards, entries, &home, &path) {
             None => Bench::fresh(None, boards, entries, home, path),
@@ -27,7 +27,7 @@ impl<H: Home, P: Path> Bench<H, P> {
         requires few { boards ≤ 8 }
         requires small { entries ≤ 8 }
         ensures path { result.path ≡ path }
-        ensures state { state_of H.Source.words P.Path.lines P.Path.long result ≡ fresh refusal boards entries (H.Source.words home) (P.Path.lines path) P.Path.long }
+        ensures state { state_of H.Source.words P.Path.lines P.Path.LENGTH result ≡ fresh refusal boards entries (H.Source.words home) (P.Path.lines path) P.Path.LENGTH }
     {
         let caches = Caches::new();
         let owners = Owners::new();
@@ -44,7 +44,7 @@ impl<H: Home, P: Path> Bench<H, P> {
 
     // Why the opening was refused, if it was.
     pub fn refusal(&self) -> Option<Refusal>
-        ensures { result ≡ (state_of H.Source.words P.Path.lines P.Path.long self.now).refusal }
+        ensures { result ≡ (state_of H.Source.words P.Path.lines P.Path.LENGTH self.now).refusal }
     {
         self.refusal
     }

@@ -13,7 +13,7 @@ loop-i-preserved g c =
     let rs = c.loop-i.replies in
     let i = c.loop-i.i in
     let place : i < length rs = omega arith in (
-      run_more g.P.Path.long (g.P.Path.lines c.args.path.now) (g.P.Path.lines c.loop-i.path) (g.P.Path.lines c.perform.new.path) os rs i _ c.perform.result
+      run_more g.P.Path.LENGTH (g.P.Path.lines c.args.path.now) (g.P.Path.lines c.loop-i.path) (g.P.Path.lines c.perform.new.path) os rs i _ c.perform.result
           c.loop-i-test.true place c.loop-i.invariant.0 c.perform.ensures,
       drop-set-lt (i + 1) rs i c.perform.result (omega arith)
           ∙ sym (drop-drop 1 i rs)
@@ -24,7 +24,7 @@ loop-i-preserved g c =
 pub returns : goal.returns
 returns g c =
     let os = c.args.orders.now in
-    let n = g.P.Path.long in
+    let n = g.P.Path.LENGTH in
     let ls = g.P.Path.lines c.args.path.now in
     let ls' = g.P.Path.lines c.loop-i.path in
     let at_end : c.loop-i.i ≡ length os = omega arith in

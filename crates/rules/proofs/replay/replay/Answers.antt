@@ -10,7 +10,7 @@ pub returns : goal.returns
 returns g c =
     let words = g.H.Source.words in
     let lines = g.P.Path.lines in
-    let long = g.P.Path.long in
+    let long = g.P.Path.LENGTH in
     let steps = c.args.steps.now in
     let r = c.run_on.result.result in
     let after = c.run_on.new.answers in

@@ -10,9 +10,9 @@ loop-i-init g c = (end, refl)
 
 pub loop-i-preserved : goal.loop-i-preserved
 loop-i-preserved g c =
-    let s = state_of g.H.Source.words g.P.Path.lines g.P.Path.long c.args.self.now in
-    let t = state_of g.H.Source.words g.P.Path.lines g.P.Path.long c.loop-i.self in
-    let u = state_of g.H.Source.words g.P.Path.lines g.P.Path.long c.perform-answer.new.self in
+    let s = state_of g.H.Source.words g.P.Path.lines g.P.Path.LENGTH c.args.self.now in
+    let t = state_of g.H.Source.words g.P.Path.lines g.P.Path.LENGTH c.loop-i.self in
+    let u = state_of g.H.Source.words g.P.Path.lines g.P.Path.LENGTH c.perform-answer.new.self in
     let steps = c.args.steps.now in
     let answers = c.loop-i.answers in
     let i = c.loop-i.i in

@@ -9,7 +9,7 @@ use Rattle.engine.proofs.bench.Bench.read.Goals as goal
 
 pub returns-in_err-checked : goal.returns-in_err-checked
 returns-in_err-checked g c =
-    let s = state_of g.H.Source.words g.P.Path.lines g.P.Path.long c.args.self.now in
+    let s = state_of g.H.Source.words g.P.Path.lines g.P.Path.LENGTH c.args.self.now in
     let p = err_from_is_err_and c.from_residual.result c.from_residual.ensures.1 in
     record {
       step = rw (p.1, p.2) (refused s c.args.board c.args.cell (λ k. read k s c.args.board c.args.cell (entry_in (cache_of s c.args.board) c.args.cell)) c.in_err-checked.field-0.0 c.in_err-checked.ensures);
@@ -19,7 +19,7 @@ returns-in_err-checked g c =
 
 pub returns : goal.returns
 returns g c =
-    let s = state_of g.H.Source.words g.P.Path.lines g.P.Path.long c.args.self.now in
+    let s = state_of g.H.Source.words g.P.Path.lines g.P.Path.LENGTH c.args.self.now in
     record {
       step = through s c.args.board c.args.cell (λ k. read k s c.args.board c.args.cell (entry_in (cache_of s c.args.board) c.args.cell)) _ _ c.in_ok-checked.ensures (c.read_entry.ensures.step.0, ap (read c.read_entry.ensures.step.0 s c.args.board c.args.cell) (sym c.entry-entry.ensures) ∙ c.read_entry.ensures.step.1);
       path = c.read_entry.ensures.path;

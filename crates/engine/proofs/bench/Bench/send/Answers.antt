@@ -30,7 +30,7 @@ put_back b {few = few} {small = small} h =
 pub returns-in-Err : goal.returns-in-Err
 returns-in-Err g c =
     record {
-      step = sent-refused (state_of g.H.Source.words g.P.Path.lines g.P.Path.long c.args.self.now) c.args.board c.args.cell c.args.word c.args.entry c.in-Err.refusal _ c.in-Err.ensures.answer c.in-Err.ensures.after;
+      step = sent-refused (state_of g.H.Source.words g.P.Path.lines g.P.Path.LENGTH c.args.self.now) c.args.board c.args.cell c.args.word c.args.entry c.in-Err.refusal _ c.in-Err.ensures.answer c.in-Err.ensures.after;
       path = c.in-Err.ensures.own;
       refused = λ _. put_back c.args.self.now (c.in-Err.ensures.refused refl);
     }
@@ -38,7 +38,7 @@ returns-in-Err g c =
 pub returns-in-Ok : goal.returns-in-Ok
 returns-in-Ok g c =
     record {
-      step = sent-started (state_of g.H.Source.words g.P.Path.lines g.P.Path.long c.args.self.now) c.args.board c.args.cell c.args.word c.args.entry _ _ c.in-Ok.ensures.answer c.in-Ok.ensures.after c.set_entry.ensures.state;
+      step = sent-started (state_of g.H.Source.words g.P.Path.lines g.P.Path.LENGTH c.args.self.now) c.args.board c.args.cell c.args.word c.args.entry _ _ c.in-Ok.ensures.answer c.in-Ok.ensures.after c.set_entry.ensures.state;
       path = subst (λ z. g.P.Path.starts c.args.self.now.path (carry_of c.args.board c.args.cell c.args.word) z) (sym c.set_entry.ensures.path) c.in-Ok.ensures.own;
       refused = λ e. search rules;
     }

@@ -6,7 +6,7 @@ use Rattle.engine.proofs.bench.Bench.write_back_entry.Goals as goal
 
 pub returns-in-Invalid : goal.returns-in-Invalid
 returns-in-Invalid g c =
-    let s = state_of g.H.Source.words g.P.Path.lines g.P.Path.long c.args.self.now in
+    let s = state_of g.H.Source.words g.P.Path.lines g.P.Path.LENGTH c.args.self.now in
     record {
       step = ap (write_back s c.args.board c.args.cell) c.in-Invalid.is;
       path = of_entry g.P.Path.starts g.P.Path.lands c.args.self.now.path _ c.args.board c.args.cell c.in-Invalid.is refl;
@@ -15,7 +15,7 @@ returns-in-Invalid g c =
 
 pub returns-in-Clean : goal.returns-in-Clean
 returns-in-Clean g c =
-    let s = state_of g.H.Source.words g.P.Path.lines g.P.Path.long c.args.self.now in
+    let s = state_of g.H.Source.words g.P.Path.lines g.P.Path.LENGTH c.args.self.now in
     record {
       step = ap (write_back s c.args.board c.args.cell) c.in-Clean.is;
       path = of_entry g.P.Path.starts g.P.Path.lands c.args.self.now.path _ c.args.board c.args.cell c.in-Clean.is refl;
