@@ -5,8 +5,6 @@
 ghost use Rattle.protocol.specs.Rules.{ProtocolKeepsModel};
 
 // Does nothing: its contract is the theorem, for every run of the machine.
-pub fn protocol_keeps_model() -> u8
+pub fn protocol_keeps_model()
     ensures { ProtocolKeepsModel }
-{
-    0
-}
+{}

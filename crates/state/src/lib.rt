@@ -6,15 +6,11 @@ ghost use Rattle.state.specs.Cases.{BenchCases};
 ghost use Rattle.state.specs.Laws.{StepLaws};
 
 // The laws of the steps hold.
-pub fn laws_of_steps() -> u8
+pub fn laws_of_steps()
     ensures { StepLaws }
-{
-    0
-}
+{}
 
 // The worked cases come out as told.
-pub fn cases_of_benches() -> u8
+pub fn cases_of_benches()
     ensures { BenchCases }
-{
-    0
-}
+{}
