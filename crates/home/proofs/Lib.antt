@@ -1,4 +1,3 @@
-pub mod Answers
 pub mod Images
 pub mod Kept
 pub mod Lists

@@ -1,4 +1,5 @@
-ghost use Rattle.std.specs.Prelude.{◌≡◌, ℕ, ◌≤◌, min, List, length};
+ghost use Rattle.std.specs.Prelude.{◌≡◌, ℕ, ◌≤◌, if◌then◌else◌, List, length, take, Ok, Err, nat_lt};
+ghost use Rattle.model.specs.declared.refusal.Refusal.TheVariants.{NoSuchCell};
 ghost use Rattle.home.specs.Words.{read_at, write_at, written};
 
 use model::refusal::Refusal;
@@ -25,13 +26,22 @@ pub trait Home: Source {
         ensures after { Self.words self.new ≡ written (Self.words self.old) cell word };
 }
 
-// How many of the words that are at hand count.
-pub(crate) fn at_most(words: usize) -> u32
-    ensures { result ≡ min 65536 words }
+// A cell at or past the size is refused.
+pub(crate) fn check_cell(cell: u32, size: u32) -> Result<(), Refusal>
+    ensures { result ≡ (if nat_lt cell size then Ok tt else Err NoSuchCell) }
 {
-    if words < 65_536 {
-        words as u32
+    if cell < size {
+        Ok(())
     } else {
-        MOST_CELLS
+        Err(Refusal::NoSuchCell)
     }
+}
+
+// The words that count, of all that are at hand.
+#[tactic(auto, using(std::proofs::lemmas::List::take_min))]
+pub(crate) fn first_words<T>(words: &[T]) -> &[T]
+    ensures first { result.now ≡ take 65536 words.now }
+    ensures few { length result.now ≤ 65536 }
+{
+    &words[..(MOST_CELLS as usize).min(words.len())]
 }

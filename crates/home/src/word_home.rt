@@ -1,8 +1,10 @@
-ghost use Rattle.std.specs.Prelude.{◌≡◌, ◌<◌, ◌≤◌, length, slice_index, slice_set};
-ghost use Rattle.home.specs.Words.{read_at, write_at, written};
+#![tactic(auto, using(crate::proofs::Lists::counted_laws))]
+
+ghost use Rattle.std.specs.Prelude.{◌≡◌, ◌≤◌, length};
+ghost use Rattle.home.specs.Words.{write_at, written};
 ghost use Rattle.home.specs.WordHome.{counted, listed};
 
-use super::source::{Home, Source, at_most};
+use super::source::{Home, Source, check_cell, first_words};
 use model::refusal::Refusal;
 
 // A home whose words stand in a list that the caller provides. A longer list counts up to the most cells of a source.
@@ -18,42 +20,28 @@ impl<'a> WordHome<'a> {
     {
         WordHome { list }
     }
-}
 
-// How many words of the list count.
-fn size_of_list(list: &[u32]) -> u32
-    ensures { (result ≡ length (counted list.now)) × (result ≤ 65536) }
-{
-    at_most(list.len())
-}
-
-fn word_of_list(list: &[u32], cell: u32) -> u32
-    requires { cell < length (counted list.now) }
-    ensures { result ≡ slice_index (counted list.now) cell }
-{
-    list[cell as usize]
-}
-
-fn put_in_list(list: &mut [u32], cell: u32, word: u32)
-    requires { cell < length (counted list.old) }
-    ensures list { list.new ≡ slice_set list.old cell word }
-    ensures words { counted list.new ≡ slice_set (counted list.old) cell word }
-{
-    list[cell as usize] = word;
+    #[tactic(auto, unfolding(crate::specs::WordHome::counted))]
+    fn words(&self) -> &[u32]
+        ensures words { result.now ≡ counted self.now.list.now }
+        ensures few { length result.now ≤ 65536 }
+    {
+        first_words(self.list)
+    }
 }
 
 impl Source for WordHome<'_> {
     ghost words = { λ s. counted s.list.now };
 
     fn size(&self) -> u32 {
-        size_of_list(self.list)
+        self.words().len() as u32
     }
 
     fn read(&self, cell: u32) -> Result<u32, Refusal> {
-        if cell >= self.size() {
-            return Err(Refusal::NoSuchCell);
-        }
-        Ok(word_of_list(self.list, cell))
+        self.words()
+            .get(cell as usize)
+            .copied()
+            .ok_or(Refusal::NoSuchCell)
     }
 }
 
@@ -64,10 +52,8 @@ impl Home for WordHome<'_> {
         ensures list { self.new.list.now ≡ listed self.old.list.now cell word }
         ensures lent { self.new.list.ghost_name ≡ self.old.list.ghost_name }
     {
-        if cell >= self.size() {
-            return Err(Refusal::NoSuchCell);
-        }
-        put_in_list(self.list, cell, word);
+        check_cell(cell, self.size())?;
+        self.list[cell as usize] = word;
         Ok(())
     }
 }

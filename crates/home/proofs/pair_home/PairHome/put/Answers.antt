@@ -1,51 +1,36 @@
-use Rattle.std.proofs.Common.{◌≡◌, ℕ, ◌<◌, List, length, take, ap, ◌∙◌, arith}
-use Rattle.home.specs.declared.pair.Pair.{Pair}
+use Rattle.std.proofs.Common.{ℕ, ◌<◌, length, sym, ap, ◌∙◌, subst, arith}
 use Rattle.home.specs.declared.pair_home.PairHome.{PairHome}
 use Rattle.home.specs.PairHome.{words_of}
-use Rattle.home.specs.Pairs.{place_in}
-use Rattle.std.proofs.lemmas.List.{length-set}
-use Rattle.home.proofs.Kept.{pair, words-length, words-put, place_room, count_room, inside_after, once_after, puts_after}
+use Rattle.home.specs.Pairs.{within, Once}
+use Rattle.home.proofs.Kept.{pair, words-length, stored, within_replaced, once_replaced, within_added, once_added, room}
 use Rattle.home.proofs.pair_home.PairHome.put.Goals as goal
 
--- the cell is one of the home's, and j is where its pair goes
 has : (h : PairHome) (cell : ℕ) → cell < length (words_of h) → cell < h.cells
-has h cell p = omega (arith, words-length h.cells h.start (take h.count h.table))
-
-goes : (h : PairHome) (ps : List Pair) (cell j : ℕ) → j ≡ place_in ps cell → ps ≡ take h.count h.table → j ≡ place_in (take h.count h.table) cell
-goes h ps cell j e q = e ∙ ap (λ l. place_in l cell) q
-
-room : (h : PairHome) (ps : List Pair) (cell j : ℕ) → cell < length (words_of h) → j ≡ place_in ps cell → ps ≡ take h.count h.table → j < 64
-room h ps cell j p e q =
-    place_room h.cells h.count h.table cell 0 j h.long h.few h.room h.inside h.once (has h cell p) (goes h ps cell j e q)
-
-pub offset_bounds-self-at : goal.offset_bounds-self-at
-offset_bounds-self-at c = omega (arith, room c.args.self.now c.pairs.result.now c.args.cell c.place_of-at.result c.requires c.place_of-at.ensures c.pairs.ensures)
-
-pub bounds-self-at : goal.bounds-self-at
-bounds-self-at c = room c.args.self.now c.pairs.result.now c.args.cell c.place_of-at.result c.requires c.place_of-at.ensures c.pairs.ensures
-
-pub overflow_add-at : goal.overflow_add-at
-overflow_add-at c = omega (arith, room c.args.self.now c.pairs.result.now c.args.cell c.place_of-at.result c.requires c.place_of-at.ensures c.pairs.ensures)
+has h cell p = omega (arith, words-length h.cells h.start h.pairs.items)
 
 pub invariant_of-self : goal.invariant_of-self
 invariant_of-self c =
     let h = c.args.self.now in
-    let j = c.place_of-at.result in
-    let c-in = has h c.args.cell c.requires in
-    let at = goes h c.pairs.result.now c.args.cell j c.place_of-at.ensures c.pairs.ensures in
+    let at = sym c.place_of.ensures ∙ c.in-Some.is in
+    let wrote = stored h.pairs.items c.deref_mut.result.now c.in-Some.at (pair c.args.cell c.args.word) c.deref_mut.ensures.value in
     record {
-      long = rw (length-set h.table j (pair c.args.cell c.args.word)) h.long;
       few = h.few;
-      room = count_room h.cells h.count h.table c.args.cell c.args.word j h.long h.few h.room h.inside h.once c-in at c.max-self.result c.max-self.ensures;
-      inside = inside_after h.cells h.count h.table c.args.cell c.args.word j h.long h.few h.room h.inside h.once c-in at c.max-self.result c.max-self.ensures;
-      once = once_after h.cells h.count h.table c.args.cell c.args.word j h.long h.few h.room h.inside h.once c-in at c.max-self.result c.max-self.ensures;
+      inside = ap (within h.cells) wrote ∙ within_replaced h.pairs.items c.in-Some.at c.args.cell c.args.word at h.cells h.inside;
+      once = subst Once (sym wrote) (once_replaced h.pairs.items c.in-Some.at c.args.cell c.args.word at h.once);
     }
 
-pub returns : goal.returns
-returns c =
+pub push-requires : goal.push-requires
+push-requires c =
     let h = c.args.self.now in
-    let j = c.place_of-at.result in
-    let c-in = has h c.args.cell c.requires in
-    let at = goes h c.pairs.result.now c.args.cell j c.place_of-at.ensures c.pairs.ensures in
-    words-put h.cells h.start (take h.count h.table) _ c.args.cell c.args.word c-in
-    (puts_after h.cells h.count h.table c.args.cell c.args.word j h.long h.few h.room h.inside h.once c-in at c.max-self.result c.max-self.ensures)
+    let none = sym c.place_of.ensures ∙ c.in-None.is in
+    omega (arith, h.few, room h.pairs.items c.args.cell c.args.word none h.cells h.inside h.once (has h c.args.cell c.requires))
+
+pub invariant_of-self-in-None : goal.invariant_of-self-in-None
+invariant_of-self-in-None c =
+    let h = c.args.self.now in
+    let none = sym c.place_of.ensures ∙ c.in-None.is in
+    record {
+      few = h.few;
+      inside = ap (within h.cells) c.push.ensures.items ∙ within_added h.pairs.items c.args.cell c.args.word none h.cells h.inside (has h c.args.cell c.requires);
+      once = subst Once (sym c.push.ensures.items) (once_added h.pairs.items c.args.cell c.args.word none h.once);
+    }
