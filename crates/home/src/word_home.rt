@@ -21,6 +21,7 @@ impl<'a> WordHome<'a> {
         WordHome { list }
     }
 
+    // The words that count.
     #[tactic(auto, unfolding(crate::specs::WordHome::counted))]
     fn words(&self) -> &[u32]
         ensures words { result.now ≡ counted self.now.list.now }

@@ -25,6 +25,7 @@ impl PairHome {
         }
     }
 
+    // The word of the cell's pair, or the starting word.
     fn word_of(&self, cell: u32) -> u32
         ensures { result ≡ unwrap_or (word_in self.now.pairs.items cell) self.now.start }
     {
@@ -34,6 +35,7 @@ impl PairHome {
             .map_or(self.start, |pair| pair.word)
     }
 
+    // Where the cell's pair stands.
     fn place_of(&self, cell: u32) -> Option<usize>
         ensures { result ≡ position (λ pair. pair.cell == cell) self.now.pairs.items }
     {
