@@ -1,13 +1,18 @@
 -- Carries of all boards in the order started: the eight lines that they make, with one more and with one less.
-use Rattle.std.proofs.Common.{◌≡◌, ℕ, zero, suc, ◌+◌, ◌*◌, ◌<◌, ◌≤◌, true, false, cond, ◌&&◌, eqb, ltb, ◌≢◌, List, [], ◌∷◌, ◌++◌, length, get_or, take, drop, set, Some, None, filter, sym, refl, ap, ◌∙◌, subst, ⊎_elim, add-one, arith}
-use Rattle.std.specs.List.{remove, AllByRecursion}
-use Rattle.std.proofs.lemmas.List.{get_or_default, set-get_or, length-set, get_or-set_same, get_or-set_other, ext_get_or, length_push, append-nil, take-append-drop, drop_more, get_or_past}
+use Rattle.std.proofs.Common.{◌≡◌, ℕ, zero, suc, ◌+◌, ◌*◌, ◌<◌, ◌≤◌, Bool, true, false, cond, ◌&&◌, eqb, ltb, ◌≢◌, List, [], ◌∷◌, ◌++◌, length, get_or, take, drop, set, Some, None, Ok, filter, Option, Result, sym, refl, ap, ◌∙◌, subst, ⊎_elim, add-one, arith}
+use Rattle.std.specs.List.{remove, AllByRecursion, position, position_or_len}
+use Rattle.std.proofs.lemmas.List.{set-get_or, length-set, get_or-set_same, get_or-set_other, ext_get_or, length_push, append-nil, take-append-drop, drop_more, get_or_past}
 use Rattle.std.proofs.lemmas.List.Elements.{filter-append}
+use Rattle.std.proofs.lemmas.List.Folds.{list_all-append}
+use Rattle.std.proofs.lemmas.List.Quantifiers.{position-Some}
+use Rattle.std.proofs.lemmas.Bool.Decides.{nat_tests}
+use Rattle.std.proofs.lemmas.Grind.{common_steps}
 use Rattle.std.proofs.lemmas.List.FromFn.{length-map-range_with_len, get_or-map-range_with_len}
-use Rattle.std.proofs.lemmas.Bool.{cases_eq, cases_lt, cond-true, cond-false, cond_both, cases_Bool, and_parts, and_from, and_left, eq-eqb, ne_eqb, eqb-true, lt-ltb, ltb-true}
+use Rattle.std.proofs.lemmas.Bool.{cases_eq, cases_lt, cond-true, cond-false, cond_both, cases_Bool, and_parts, and_from, and_left, eq-eqb, ne_eqb, eqb-true, ltb-true}
 use Rattle.model.specs.declared.carry.Carry.{Carry}
-use Rattle.carries.specs.Lines.{line, of_lane, lane, oldest, without, Landed, Proper}
-use Rattle.carries.specs.Tables.{line_of, lines_of, located, Short, blank, without_first, FirstOfBoard, FirstAt}
+use Rattle.model.specs.declared.refusal.Refusal.{Refusal}
+use Rattle.carries.specs.Lines.{line, of_lane, lane, oldest, without, joined, checked, start_at, if_started, started, Landed, Proper}
+use Rattle.carries.specs.Tables.{line_of, lines_of, located, Short, without_first}
 
 pub lines-length : (xs : List Carry) → length (lines_of xs) ≡ 8
 unfolding lines_of
@@ -66,26 +71,11 @@ short-push n xs x s h b =
     (λ (ne : b ≡ x.board → ⊥). let long = ap length (line-push-other x xs b ne) in omega (arith, s b))
     (cases_eq b x.board)
 
-located-append : (xs ys : List Carry) → located xs ≡ true → located ys ≡ true → located (xs ++ ys) ≡ true
-located-append [] ys h k = k
-located-append (x ∷ xs) ys h k =
-    let parts = and_parts (ltb x.board 8 && ltb x.cell 64) (located xs) h in
-    and_from (ltb x.board 8 && ltb x.cell 64) (located (xs ++ ys)) parts.0 (located-append xs ys parts.1 k)
+located-append : (xs ys : List Carry) → located (xs ++ ys) ≡ (located xs && located ys)
+located-append xs ys = list_all-append (λ x. ltb x.board 8 && ltb x.cell 64) xs ys
 
 pub located-push : (xs : List Carry) (x : Carry) → located xs ≡ true → x.board < 8 → x.cell < 64 → located (xs ++ x ∷ []) ≡ true
-located-push xs x l b c =
-    located-append xs (x ∷ []) l
-    (and_from (ltb x.board 8 && ltb x.cell 64) true (and_from (ltb x.board 8) (ltb x.cell 64) (lt-ltb x.board 8 b) (lt-ltb x.cell 64 c)) refl)
-
-located-left : (xs ys : List Carry) → located (xs ++ ys) ≡ true → located xs ≡ true
-located-left [] ys h = refl
-located-left (x ∷ xs) ys h =
-    let parts = and_parts (ltb x.board 8 && ltb x.cell 64) (located (xs ++ ys)) h in
-    and_from (ltb x.board 8 && ltb x.cell 64) (located xs) parts.0 (located-left xs ys parts.1)
-
-located-right : (xs ys : List Carry) → located (xs ++ ys) ≡ true → located ys ≡ true
-located-right [] ys h = h
-located-right (x ∷ xs) ys h = located-right xs ys (and_parts (ltb x.board 8 && ltb x.cell 64) (located (xs ++ ys)) h).1
+located-push xs x l b c = grind (arith, nat_tests, located-append xs (x ∷ []))
 
 -- how many carries the boards below n have
 abbrev total : ℕ → List Carry → ℕ
@@ -144,8 +134,27 @@ total-room (suc n) b xs s h r =
 pub room : (b : ℕ) (xs : List Carry) → located xs ≡ true → Short 8 xs → b < 8 → length (line_of b xs) < 8 → length xs < 64
 room b xs l s h r = omega (arith, length-total xs l, total-room 8 b xs s h r)
 
--- one less: the carry x at place i
-module _ (xs : List Carry) (i : ℕ) (x : Carry) (within : i < length xs) (read : x ≡ get_or xs i x) where
+-- one less: without the carry at place i
+pub located-removed : (xs : List Carry) (i : ℕ) → located xs ≡ true → located (remove xs i) ≡ true
+located-removed [] i l = grind (arith, common_steps)
+located-removed (x ∷ xs) zero l = grind (arith, nat_tests)
+located-removed (x ∷ xs) (suc i) l = grind (arith, nat_tests, located-removed xs i)
+
+pub shorter : (b : ℕ) (xs : List Carry) (i : ℕ) → length (line_of b (remove xs i)) ≤ length (line_of b xs)
+shorter b [] i = grind (arith, common_steps)
+shorter b (x ∷ xs) zero = grind (arith, nat_tests)
+shorter b (x ∷ xs) (suc i) = grind (arith, nat_tests, shorter b xs i)
+
+pub short-removed : (n : ℕ) (xs : List Carry) (i : ℕ) → Short n xs → Short n (remove xs i)
+short-removed n xs i s b = omega (arith, s b, shorter b xs i)
+
+located-at : (xs : List Carry) (i : ℕ) (x : Carry) → i < length xs → x ≡ get_or xs i x → located xs ≡ true → x.board < 8
+located-at [] i x within read l = absurd (omega arith)
+located-at (y ∷ ys) zero x within read l = grind (arith, nat_tests)
+located-at (y ∷ ys) (suc i) x within read l = located-at ys i x (omega arith) read (grind (arith, nat_tests))
+
+-- x, at place i, is the first of its board
+module _ (xs : List Carry) (i : ℕ) (x : Carry) (within : i < length xs) (read : x ≡ get_or xs i x) (first : line_of x.board (take i xs) ≡ []) where
   split : xs ≡ take i xs ++ x ∷ drop (i + 1) xs
   split = sym (take-append-drop i xs) ∙ ap (λ l. take i xs ++ l) (drop_more xs i x within ∙ ap (λ y. y ∷ drop (i + 1) xs) (sym read))
 
@@ -160,40 +169,15 @@ module _ (xs : List Carry) (i : ℕ) (x : Carry) (within : i < length xs) (read 
       ∙ sym (line-append k (take i xs) (x ∷ drop (i + 1) xs))
       ∙ ap (line_of k) (sym split)
 
-  pub located-removed : located xs ≡ true → located (remove xs i) ≡ true
-  located-removed l =
-      let parts = subst (λ ys. located ys ≡ true) split l in
-      ap located removed-is
-      ∙ located-append (take i xs) (drop (i + 1) xs) (located-left (take i xs) (x ∷ drop (i + 1) xs) parts)
-      (and_parts (ltb x.board 8 && ltb x.cell 64) (located (drop (i + 1) xs)) (located-right (take i xs) (x ∷ drop (i + 1) xs) parts)).1
-
-  pub located-at : located xs ≡ true → x.board < 8
-  located-at l = board-in x (drop (i + 1) xs) (located-right (take i xs) (x ∷ drop (i + 1) xs) (subst (λ ys. located ys ≡ true) split l))
-
--- x is the first of its board
-module _ (xs : List Carry) (i : ℕ) (x : Carry) (within : i < length xs) (read : x ≡ get_or xs i x) (first : FirstOfBoard xs i) where
-  before-none : line_of x.board (take i xs) ≡ []
-  before-none = ap (λ y. line_of y.board (take i xs)) (read ∙ get_or_default xs i x blank within) ∙ first
-
   -- it heads its line, and the rest of the line is what is left of it
   line_first : line_of x.board xs ≡ x ∷ line_of x.board (remove xs i)
   line_first =
-      ap (line_of x.board) (split xs i x within read)
+      ap (line_of x.board) split
       ∙ line-append x.board (take i xs) (x ∷ drop (i + 1) xs)
-      ∙ ap (λ l. l ++ line_of x.board (x ∷ drop (i + 1) xs)) before-none
+      ∙ ap (λ l. l ++ line_of x.board (x ∷ drop (i + 1) xs)) first
       ∙ line-cons-same x (drop (i + 1) xs)
       ∙ ap (λ l. x ∷ l)
-      (sym (ap (line_of x.board) (removed-is xs i x within read)
-      ∙ line-append x.board (take i xs) (drop (i + 1) xs)
-      ∙ ap (λ l. l ++ line_of x.board (drop (i + 1) xs)) before-none))
-
-  pub short-removed : (n : ℕ) → Short n xs → Short n (remove xs i)
-  short-removed n s b =
-      ⊎_elim
-      (λ (e : b ≡ x.board).
-      subst (λ k. length (line_of k (remove xs i)) ≤ n) (sym e) (let long = ap length line_first in omega (arith, s x.board)))
-      (λ (ne : b ≡ x.board → ⊥). let long = ap length (line-removed-other xs i x within read b ne) in omega (arith, s b))
-      (cases_eq b x.board)
+      (sym (ap (line_of x.board) removed-is ∙ line-append x.board (take i xs) (drop (i + 1) xs) ∙ ap (λ l. l ++ line_of x.board (drop (i + 1) xs)) first))
 
   module _ (known : located xs ≡ true) where
     head-line : line (lines_of xs) x.board ≡ x ∷ line_of x.board (remove xs i)
@@ -206,7 +190,7 @@ module _ (xs : List Carry) (i : ℕ) (x : Carry) (within : i < length xs) (read 
     lines-removed =
         lines-set xs (remove xs i) x.board (drop 1 (line (lines_of xs) x.board)) (located-at xs i x within read known)
         (sym (ap (drop 1) head-line))
-        (line-removed-other xs i x within read)
+        line-removed-other
 
     of-itself : of_lane x.board x.cell x ≡ true
     of-itself = and_from (eqb x.board x.board) (eqb x.cell x.cell) (eq-eqb x.board x.board refl) (eq-eqb x.cell x.cell refl)
@@ -222,6 +206,23 @@ module _ (xs : List Carry) (i : ℕ) (x : Carry) (within : i < length xs) (read 
 
 pub nothing-waits : Landed (lines_of []) None (lines_of [])
 nothing-waits = (λ b. ⊎_elim (λ (h : b < 8). line-of [] b h) (λ (h : 8 ≤ b). line-past [] b h) (cases_lt b 8), refl)
+
+-- the first of all lands, if there is one
+pub landed-first : (xs : List Carry) (r : Option Carry) (ys : List Carry) → located xs ≡ true → r ≡ oldest xs → ys ≡ drop 1 xs → Landed (lines_of xs) r (lines_of ys)
+landed-first [] r ys l is rest = subst (λ r. Landed (lines_of []) r (lines_of ys)) (sym is) (subst (λ ys. Landed (lines_of []) None (lines_of ys)) (sym rest) nothing-waits)
+landed-first (x ∷ xs) r ys l is rest =
+    subst (λ r. Landed (lines_of (x ∷ xs)) r (lines_of ys)) (sym is)
+    (subst (λ ys. Landed (lines_of (x ∷ xs)) (Some x) (lines_of ys)) (sym rest) (landed (x ∷ xs) 0 x (omega arith) refl refl l))
+
+-- the checks of a call let a board and a cell through: then they exist, and the answer is what it is without them
+pub checks : (b c : ℕ) (u : Unit {0}) → checked b c (Ok tt) ≡ Ok u → (b < 8) × (c < 64)
+checks b c u e = grind (arith, nat_tests)
+
+pub checked-on : {X : Type 0} (b c : ℕ) (r : Result X Refusal) → b < 8 → c < 64 → checked b c r ≡ r
+checked-on b c r h k = grind (arith, nat_tests)
+
+pub started-is : (n : ℕ) (ls : List (List Carry)) (x : Carry) → x.board < 8 → x.cell < 64 → length (line ls x.board) < n → started n ls x ≡ set ls x.board (joined (line ls x.board) x)
+started-is n ls x h k r = let new = set ls x.board (joined (line ls x.board) x) in let ok : start_at n ls x ≡ Ok tt = grind (arith, nat_tests) in ap (λ a. if_started a new ls) ok
 
 -- a lane of a board's line is the lane among all
 lane-line : (b c : ℕ) (xs : List Carry) → filter (of_lane b c) (line_of b xs) ≡ filter (of_lane b c) xs
@@ -265,35 +266,47 @@ proper n xs l s =
 pub lane_of : (xs : List Carry) (b c : ℕ) → b < 8 → lane (lines_of xs) b c ≡ filter (of_lane b c) xs
 lane_of xs b c h = ap (filter (of_lane b c)) (line-of xs b h) ∙ lane-line b c xs
 
--- without the first of board b, where none is of board b and where the one at place i is the first
-none-without : (b : ℕ) (xs : List Carry) → line_of b xs ≡ [] → xs ≡ without_first b xs
-none-without b [] e = refl
-none-without b (x ∷ xs) e =
-    ⊎_elim
-    (λ (t : eqb x.board b ≡ true).
-    let some = sym (cond-true (eqb x.board b) (x ∷ line_of b xs) (line_of b xs) t) ∙ e in
-    let z : ◌≡◌ {A = ℕ} 0 1 = cc in
-    absurd (omega arith))
-    (λ (f : eqb x.board b ≡ false).
-    ap (λ l. x ∷ l) (none-without b xs (sym (cond-false (eqb x.board b) (x ∷ line_of b xs) (line_of b xs) f) ∙ e))
-    ∙ sym (cond-false (eqb x.board b) xs (x ∷ without_first b xs) f))
-    (cases_Bool (eqb x.board b))
+-- the first of board b: where it stands, and what is left without it
+module _ (b : ℕ) where
+  abbrev of-board : Carry → Bool
+  of-board x = eqb x.board b
 
-pub first-without : (b : ℕ) (xs : List Carry) (i : ℕ) → i < length xs → (get_or xs i blank).board ≡ b → line_of b (take i xs) ≡ [] → remove xs i ≡ without_first b xs
-first-without b [] i h is none = absurd (omega arith)
-first-without b (x ∷ xs) zero h is none = sym (cond-true (eqb x.board b) xs (x ∷ without_first b xs) (eq-eqb x.board b is))
-first-without b (x ∷ xs) (suc i) h is none =
-    ⊎_elim
-    (λ (t : eqb x.board b ≡ true).
-    let some = sym (cond-true (eqb x.board b) (x ∷ line_of b (take i xs)) (line_of b (take i xs)) t) ∙ none in
-    let z : ◌≡◌ {A = ℕ} 0 1 = cc in
-    absurd (omega arith))
-    (λ (f : eqb x.board b ≡ false).
-    ap (λ l. x ∷ l) (first-without b xs i (omega arith) is (sym (cond-false (eqb x.board b) (x ∷ line_of b (take i xs)) (line_of b (take i xs)) f) ∙ none))
-    ∙ sym (cond-false (eqb x.board b) xs (x ∷ without_first b xs) f))
-    (cases_Bool (eqb x.board b))
+  found : (xs : List Carry) (i : ℕ) (d : Carry) → i < length xs → of-board (get_or xs i d) ≡ true → ((k : ℕ) → k < i → of-board (get_or xs k d) ≡ false)
+      → (line_of b (take i xs) ≡ []) × (remove xs i ≡ without_first b xs)
+  found [] i d h is others = absurd (omega arith)
+  found (x ∷ xs) zero d h is others = (refl, grind (arith, nat_tests))
+  found (x ∷ xs) (suc i) d h is others =
+      let here : eqb x.board b ≡ false = others 0 (omega arith) in
+      let rest = found xs i d (omega arith) is (λ k l. others (suc k) (omega arith)) in
+      (grind (arith, nat_tests, here, rest.0), grind (arith, nat_tests, here, rest.1))
 
-pub none_first : (xs : List Carry) (b : ℕ) → line_of b xs ≡ [] → FirstAt b xs None
-none_first xs b none =
-    let empty : line (lines_of xs) b ≡ [] = ⊎_elim (λ (h : b < 8). line-of xs b h ∙ none) (λ (h : 8 ≤ b). line-past xs b h) (cases_lt b 8) in
-    (sym (ap oldest empty), sym (ap (set (lines_of xs) b) (ap (drop 1) empty ∙ sym empty) ∙ set-get_or (lines_of xs) b []), none-without b xs none)
+  absent : (xs : List Carry) → length xs ≤ position_or_len of-board xs → (line_of b xs ≡ []) × (xs ≡ without_first b xs)
+  absent [] h = (refl, refl)
+  absent (x ∷ xs) h = grind (arith, nat_tests, absent xs)
+
+  not_found : (xs : List Carry) → position of-board xs ≡ None → (line_of b xs ≡ []) × (xs ≡ without_first b xs)
+  not_found xs e = absent xs (grind (arith, nat_tests))
+
+  -- where there is none, nothing lands; x, which stands in the place found, does
+  pub none-lands : (xs : List Carry) → position of-board xs ≡ None
+      → (None ≡ oldest (line (lines_of xs) b)) × (lines_of xs ≡ set (lines_of xs) b (drop 1 (line (lines_of xs) b))) × (xs ≡ without_first b xs)
+  none-lands xs e =
+      let none = not_found xs e in
+      let empty : line (lines_of xs) b ≡ [] = ⊎_elim (λ (h : b < 8). line-of xs b h ∙ none.0) (λ (h : 8 ≤ b). line-past xs b h) (cases_lt b 8) in
+      (sym (ap oldest empty), sym (ap (set (lines_of xs) b) (ap (drop 1) empty ∙ sym empty) ∙ set-get_or (lines_of xs) b []), none.1)
+
+  pub lands : (xs : List Carry) (i : ℕ) (x : Carry) → located xs ≡ true → position of-board xs ≡ Some i → x ≡ get_or xs i x
+      → (Some x ≡ oldest (line (lines_of xs) b))
+      × (lines_of (remove xs i) ≡ set (lines_of xs) b (drop 1 (line (lines_of xs) b)))
+      × (remove xs i ≡ without_first b xs)
+      × Landed (lines_of xs) (Some x) (lines_of (remove xs i))
+  lands xs i x l e read =
+      let at = position-Some of-board xs i x e in
+      let is : x.board ≡ b = ap (λ y. y.board) read ∙ eqb-true (get_or xs i x).board b at.1 in
+      let front = found xs i x at.0 at.1 at.2 in
+      let first : line_of x.board (take i xs) ≡ [] = ap (λ k. line_of k (take i xs)) is ∙ front.0 in (
+        head-oldest xs i x at.0 read first l ∙ ap (λ k. oldest (line (lines_of xs) k)) is,
+        lines-removed xs i x at.0 read first l ∙ ap (λ k. set (lines_of xs) k (drop 1 (line (lines_of xs) k))) is,
+        front.1,
+        landed xs i x at.0 read first l,
+      )

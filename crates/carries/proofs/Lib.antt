@@ -1,3 +1,2 @@
 pub mod ByBoard
 pub mod Newest
-pub mod Rows

@@ -1,20 +1,16 @@
-ghost use Rattle.std.specs.Prelude.{◌≡◌, ◌≤◌, true, length, take};
+ghost use Rattle.std.specs.Prelude.{◌≡◌, min, true};
 ghost use Rattle.carries.specs.Tables.{located, Short};
 
+use arrayvec::ArrayVec;
 use model::carry::Carry;
 
 mod calls;
 
-// A place for every carry that eight full lines of eight have.
-const PLACES: usize = 64;
-
-// The carries of all boards that wait, in the order started.
+// The carries of all boards that wait, in the order started. A line holds `LENGTH` of them at most, and never more than
+// eight: so there is a place for every carry.
 #[derive(Drop)]
-pub struct Table {
-    carries: [Carry; PLACES],
-    used: usize,
-    ghost room: { length carries ≡ 64 },
-    ghost within: { used ≤ 64 },
-    ghost located: { located (take used carries) ≡ true },
-    ghost short: { Short 8 (take used carries) },
+pub struct Table<const LENGTH: u32> {
+    carries: ArrayVec<Carry, 64>,
+    ghost located: { located carries.items ≡ true },
+    ghost short: { Short (min LENGTH 8) carries.items },
 }

@@ -3,7 +3,7 @@ ghost use Rattle.std.specs.Prelude.{◌≡◌};
 use super::search::Located;
 
 // A write back in flight: the word that a board has sent to a cell of the memory and that has not arrived yet.
-#[derive(Clone, Copy, PartialEq, Eq, Debug)]
+#[derive(Clone, Copy, PartialEq, Eq, Debug, Default)]
 pub struct Carry {
     pub board: u32,
     pub cell: u32,

@@ -13,7 +13,7 @@ use model::refusal::Refusal;
 // The path that lands the carry started earliest of all.
 #[derive(Drop)]
 pub struct FirstCome {
-    waiting: Table,
+    waiting: Table<8>,
 }
 
 impl FirstCome {
@@ -53,7 +53,7 @@ impl Path for FirstCome {
         ensures own { StartsLast self.old.waiting carry self.new.waiting }
         ensures refused { is_ok result ≡ false → self.new ≡ self.old }
     {
-        self.waiting.start(Self::LENGTH, carry)
+        self.waiting.start(carry)
     }
 
     fn land(&mut self) -> Option<Carry>

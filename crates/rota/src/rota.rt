@@ -2,7 +2,6 @@ ghost use Rattle.std.specs.Prelude.{◌≡◌, ℕ, ◌-◌, ◌<◌, ◌≤◌,
 ghost use Rattle.std.specs.List.{range_with_len, slice_get};
 ghost use Rattle.carries.specs.Held.{held, lines_in};
 ghost use Rattle.carries.specs.Lines.{line, start_at, started, Landed};
-ghost use Rattle.carries.specs.Tables.{Short};
 ghost use Rattle.rota.specs.Bound.{LandsWithin};
 ghost use Rattle.rota.specs.Turns.{fixed_turns, EveryBoard, waits, can_land, turn_to_land, turn_after, landing, Served, StartsInLine, LandsByTurn};
 ghost use Rattle.carries.proofs.ByBoard;
@@ -20,14 +19,13 @@ const TURNS: [u32; 16] = [0, 1, 2, 3, 4, 5, 6, 7, 0, 1, 2, 3, 0, 1, 0, 1];
 // and goes on with the turn after it.
 #[derive(Drop)]
 pub struct Rota {
-    waiting: Table,
+    waiting: Table<4>,
     turn: usize,
     ghost within: { turn < 16 },
-    ghost short: { Short 4 (held waiting) },
 }
 
 // Whether a board has a carry.
-fn has_carry(waiting: &Table, board: u32) -> bool
+fn has_carry(waiting: &Table<4>, board: u32) -> bool
     ensures { result ≡ waits (line (lines_in waiting.now) board) }
 {
     match waiting.count(board) {
@@ -37,7 +35,7 @@ fn has_carry(waiting: &Table, board: u32) -> bool
 }
 
 // The first turn of those from `from` up to `to` whose board has a carry.
-fn first_turn(turns: &[u32], waiting: &Table, from: usize, to: usize) -> Option<usize>
+fn first_turn(turns: &[u32], waiting: &Table<4>, from: usize, to: usize) -> Option<usize>
     requires { to ≤ length turns.now }
     ensures { result ≡ slice_get (filter (can_land turns.now (lines_in waiting.now)) (range_with_len from (to - from))) 0 }
 {
@@ -50,7 +48,7 @@ fn first_turn(turns: &[u32], waiting: &Table, from: usize, to: usize) -> Option<
 }
 
 // The first turn, as they come round, whose board has a carry.
-fn turn_to_land(turns: &[u32], waiting: &Table, turn: usize) -> Option<usize>
+fn turn_to_land(turns: &[u32], waiting: &Table<4>, turn: usize) -> Option<usize>
     requires { turn < length turns.now }
     ensures { result ≡ turn_to_land turns.now (lines_in waiting.now) turn }
 {
@@ -65,16 +63,6 @@ fn turn_after(turns: &[u32], turn: usize) -> usize
     ensures { result ≡ turn_after turns.now turn }
 {
     if turn + 1 < turns.len() { turn + 1 } else { 0 }
-}
-
-// Starts a carry on a rota's table.
-fn start_in(waiting: &mut Table, carry: Carry) -> Result<(), Refusal>
-    ensures answer { result ≡ start_at 4 (lines_in waiting.old) carry }
-    ensures after { lines_in waiting.new ≡ started 4 (lines_in waiting.old) carry }
-    ensures short { Short 4 (held waiting.old) → Short 4 (held waiting.new) }
-    ensures refused { is_ok result ≡ false → waiting.new ≡ waiting.old }
-{
-    waiting.start(Rota::LENGTH, carry)
 }
 
 impl Rota {
@@ -130,7 +118,7 @@ impl Path for Rota {
 
     ghost bounded = { Prim.search rules };
 
-    ghost proper = { λ p. ByBoard.proper 4 (held p.waiting) p.waiting.located p.short };
+    ghost proper = { λ p. ByBoard.proper 4 (held p.waiting) p.waiting.located p.waiting.short };
 
     fn capacity() -> u32 {
         Self::LENGTH
@@ -143,7 +131,7 @@ impl Path for Rota {
         ensures own { StartsInLine (lines_in self.old.waiting) self.old.turn carry (lines_in self.new.waiting) self.new.turn }
         ensures refused { is_ok result ≡ false → self.new ≡ self.old }
     {
-        start_in(&mut self.waiting, carry)
+        self.waiting.start(carry)
     }
 
     fn land(&mut self) -> Option<Carry>
