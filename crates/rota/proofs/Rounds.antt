@@ -1,54 +1,13 @@
 -- The turns as they come round, and the first of them whose board has a carry.
-use Rattle.std.proofs.Common.{◌≡◌, ℕ, zero, suc, ◌+◌, ◌-◌, ◌<◌, ◌≤◌, Bool, true, false, cond, eqb, ltb, List, [], ◌∷◌, ◌++◌, length, get_or, is_some, Some, None, filter, Option, sym, refl, ap, ◌∙◌, subst, ⊎_elim, arith}
-use Rattle.std.specs.List.{range_with_len, slice_get}
-use Rattle.std.proofs.lemmas.List.Elements.{filter-append}
+use Rattle.std.proofs.Common.{◌≡◌, ℕ, zero, suc, ◌+◌, ◌-◌, ◌<◌, ◌≤◌, Bool, true, false, cond, eqb, ltb, List, [], ◌∷◌, length, get_or, is_some, Some, None, Option, sym, refl, ap, ◌∙◌, subst, ⊎_elim, arith}
+use Rattle.std.specs.List.{range_with_len, find}
+use Rattle.std.specs.Option.{option_or}
+use Rattle.std.proofs.lemmas.List.Folds.{find-append}
 use Rattle.std.proofs.lemmas.List.{get_or_past}
 use Rattle.std.proofs.lemmas.Bool.{cases_eq, cases_lt, cases_Bool, both_ways, true≢false, false≢true, or_cases, cond-true, cond-false, cond_both, lt-ltb, le-ltb, ltb-true, ltb-false, eqb-true}
 use Rattle.model.specs.declared.carry.Carry.{Carry}
 use Rattle.carries.specs.Lines.{line, oldest}
 use Rattle.rota.specs.Turns.{occurs, EveryBoard, waits, can_land, coming_round, turn_after, Served}
-
--- the numbers from i up to m
-pub counting-cons : (i m : ℕ) → i < m → range_with_len i (m - i) ≡ i ∷ range_with_len (i + 1) (m - (i + 1))
-counting-cons i m h = let one : m - i ≡ suc (m - (i + 1)) = omega arith in ap (range_with_len i) one
-
-pub counting-end : (i m : ℕ) → m ≤ i → range_with_len i (m - i) ≡ []
-counting-end i m h = let none : m - i ≡ 0 = omega arith in ap (range_with_len i) none
-
--- the first number from i up to m that passes a test
-module _ (p : ℕ → Bool) (i m : ℕ) (h : i < m) where
-  pub first-here : p i ≡ true → slice_get (filter p (range_with_len i (m - i))) 0 ≡ Some i
-  first-here e =
-      let rest = filter p (range_with_len (i + 1) (m - (i + 1))) in
-      ap (λ l. slice_get (filter p l) 0) (counting-cons i m h) ∙ ap (λ l. slice_get l 0) (cond-true (p i) (i ∷ rest) rest e)
-
-  pub first-later : p i ≡ false → slice_get (filter p (range_with_len i (m - i))) 0 ≡ slice_get (filter p (range_with_len (i + 1) (m - (i + 1)))) 0
-  first-later e =
-      let rest = filter p (range_with_len (i + 1) (m - (i + 1))) in
-      ap (λ l. slice_get (filter p l) 0) (counting-cons i m h) ∙ ap (λ l. slice_get l 0) (cond-false (p i) (i ∷ rest) rest e)
-
--- the first of two lists together
-first-append : {X : Type 0} (xs ys : List X) (x : X) → slice_get xs 0 ≡ Some x → slice_get (xs ++ ys) 0 ≡ Some x
-first-append [] ys x e = cc
-first-append (y ∷ xs) ys x e = e
-
-first-none : {X : Type 0} (xs ys : List X) → slice_get xs 0 ≡ None → slice_get (xs ++ ys) 0 ≡ slice_get ys 0
-first-none [] ys e = refl
-first-none (y ∷ xs) ys e = cc
-
--- the turn found before the list of turns ends, or else from its start
-module _ (p : ℕ → Bool) (n t : ℕ) where
-  round-parts : filter p (coming_round n t) ≡ filter p (range_with_len t (n - t)) ++ filter p (range_with_len 0 t)
-  round-parts = filter-append p (range_with_len t (n - t)) (range_with_len 0 t)
-
-  pub found-ahead : (i : ℕ) → Some i ≡ slice_get (filter p (range_with_len t (n - t))) 0 → Some i ≡ slice_get (filter p (coming_round n t)) 0
-  found-ahead i e = sym (ap (λ l. slice_get l 0) round-parts ∙ first-append (filter p (range_with_len t (n - t))) (filter p (range_with_len 0 t)) i (sym e))
-
-  found-behind : None ≡ slice_get (filter p (range_with_len t (n - t))) 0 → slice_get (filter p (range_with_len 0 t)) 0 ≡ slice_get (filter p (coming_round n t)) 0
-  found-behind e = sym (ap (λ l. slice_get l 0) round-parts ∙ first-none (filter p (range_with_len t (n - t))) (filter p (range_with_len 0 t)) (sym e))
-
-  pub found-again : (r : Option ℕ) → None ≡ slice_get (filter p (range_with_len t (n - t))) 0 → r ≡ slice_get (filter p (range_with_len 0 (t - 0))) 0 → r ≡ slice_get (filter p (coming_round n t)) 0
-  found-again r e f = let all : t - 0 ≡ t = omega arith in f ∙ ap (λ k. slice_get (filter p (range_with_len 0 k)) 0) all ∙ found-behind e
 
 -- what it is to be the first of m numbers from a on that pass a test
 abbrev FirstIn : (ℕ → Bool) → ℕ → ℕ → Option ℕ → Type 0
@@ -61,17 +20,13 @@ module _ (p : ℕ → Bool) where
   one-before a m f (Some i) h =
       (omega (arith, h.0), omega (arith, h.1), h.2, λ j low high. ⊎_elim (λ (e : a ≡ j). ap p (sym e) ∙ f) (λ (ne : a ≡ j → ⊥). h.3 j (omega arith) high) (cases_eq a j))
 
-  first-in : (a m : ℕ) → FirstIn p a m (slice_get (filter p (range_with_len a m)) 0)
+  first-in : (a m : ℕ) → FirstIn p a m (find p (range_with_len a m))
   first-in a zero = λ j low high. absurd (omega arith)
   first-in a (suc m) =
-      let rest = filter p (range_with_len (a + 1) m) in
+      let rest = find p (range_with_len (a + 1) m) in
       ⊎_elim
-      (λ (t : p a ≡ true).
-      subst (FirstIn p a (suc m)) (sym (ap (λ l. slice_get l 0) (cond-true (p a) (a ∷ rest) rest t)))
-      (omega arith, omega arith, t, λ j low high. absurd (omega arith)))
-      (λ (f : p a ≡ false).
-      subst (FirstIn p a (suc m)) (sym (ap (λ l. slice_get l 0) (cond-false (p a) (a ∷ rest) rest f)))
-      (one-before a m f (slice_get rest 0) (first-in (a + 1) m)))
+      (λ (t : p a ≡ true). subst (FirstIn p a (suc m)) (sym (cond-true (p a) (Some a) rest t)) (omega arith, omega arith, t, λ j low high. absurd (omega arith)))
+      (λ (f : p a ≡ false). subst (FirstIn p a (suc m)) (sym (cond-false (p a) (Some a) rest f)) (one-before a m f rest (first-in (a + 1) m)))
       (cases_Bool (p a))
 
 -- how many of n turns are passed over from turn t to turn i
@@ -127,14 +82,12 @@ module _ (p : ℕ → Bool) (n t : ℕ) (inside : t < n) where
             (cases_lt j t),
       )
 
-  pub first_round : FirstRound p n t (slice_get (filter p (coming_round n t)) 0)
-  first_round = go (slice_get (filter p (range_with_len t (n - t))) 0) refl
+  pub first_round : FirstRound p n t (find p (coming_round n t))
+  first_round = subst (FirstRound p n t) (sym (find-append p (range_with_len t (n - t)) (range_with_len 0 t))) (go (find p (range_with_len t (n - t))) (first-in p t (n - t)))
     where
-      go : (r : Option ℕ) → slice_get (filter p (range_with_len t (n - t))) 0 ≡ r → FirstRound p n t (slice_get (filter p (coming_round n t)) 0)
-      go (Some i) e = subst (FirstRound p n t) (found-ahead p n t i (sym e)) (ahead i (subst (FirstIn p t (n - t)) e (first-in p t (n - t))))
-      go None e =
-          subst (FirstRound p n t) (found-behind p n t (sym e))
-          (behind (subst (FirstIn p t (n - t)) e (first-in p t (n - t))) (slice_get (filter p (range_with_len 0 t)) 0) (first-in p 0 t))
+      go : (r : Option ℕ) → FirstIn p t (n - t) r → FirstRound p n t (option_or r (find p (range_with_len 0 t)))
+      go (Some i) h = ahead i h
+      go None h = behind h (find p (range_with_len 0 t)) (first-in p 0 t)
 
 -- the turn after turn i: every turn that was further off than i is nearer by those passed over and by one
 pub after_turn : (ts : List ℕ) (t i j : ℕ) → t < length ts → i < length ts → j < length ts → passed (length ts) t i < passed (length ts) t j

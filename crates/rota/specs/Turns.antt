@@ -1,6 +1,6 @@
 -- A landing by turns: which board's turn it is, what a landing answers, and the lines and the turn after it.
-use Rattle.std.specs.Prelude.{◌≡◌, ℕ, ◌+◌, ◌-◌, ◌<◌, Bool, true, false, cond, ◌||◌, List, [], ◌∷◌, ◌++◌, length, drop, is_some, Some, None, filter, Option, ◌==◌, nat_lt, slice_index, slice_set}
-use Rattle.std.specs.List.{range_with_len, slice_get}
+use Rattle.std.specs.Prelude.{◌≡◌, ℕ, ◌+◌, ◌-◌, ◌<◌, Bool, true, false, cond, ◌||◌, List, [], ◌∷◌, ◌++◌, length, drop, is_some, Some, None, Option, ◌==◌, nat_lt, slice_index, slice_set}
+use Rattle.std.specs.List.{range_with_len, find}
 use Rattle.model.specs.declared.carry.Carry.{Carry}
 use Rattle.carries.specs.Lines.{line, oldest, started, Landed}
 
@@ -32,7 +32,7 @@ coming_round n t = range_with_len t (n - t) ++ range_with_len 0 t
 
 -- the first of them whose board has a carry
 abbrev pub turn_to_land : List ℕ → List (List Carry) → ℕ → Option ℕ
-turn_to_land ts ls t = slice_get (filter (can_land ts ls) (coming_round (length ts) t)) 0
+turn_to_land ts ls t = find (can_land ts ls) (coming_round (length ts) t)
 
 -- the turn after turn i
 abbrev pub turn_after : List ℕ → ℕ → ℕ

@@ -1,5 +1,5 @@
 ghost use Rattle.std.specs.Prelude.{◌≡◌, ℕ, ◌-◌, ◌<◌, ◌≤◌, false, List, [], length, is_some, is_ok, filter};
-ghost use Rattle.std.specs.List.{range_with_len, slice_get};
+ghost use Rattle.std.specs.List.{range_with_len, find};
 ghost use Rattle.carries.specs.Held.{held, lines_in};
 ghost use Rattle.carries.specs.Lines.{line, start_at, started, Landed};
 ghost use Rattle.rota.specs.Bound.{LandsWithin};
@@ -28,23 +28,15 @@ pub struct Rota {
 fn has_carry(waiting: &Table<4>, board: u32) -> bool
     ensures { result ≡ waits (line (lines_in waiting.now) board) }
 {
-    match waiting.count(board) {
-        Ok(count) => count > 0,
-        Err(_) => false,
-    }
+    waiting.count(board).is_ok_and(|count| count > 0)
 }
 
 // The first turn of those from `from` up to `to` whose board has a carry.
 fn first_turn(turns: &[u32], waiting: &Table<4>, from: usize, to: usize) -> Option<usize>
     requires { to ≤ length turns.now }
-    ensures { result ≡ slice_get (filter (can_land turns.now (lines_in waiting.now)) (range_with_len from (to - from))) 0 }
+    ensures { result ≡ find (can_land turns.now (lines_in waiting.now)) (range_with_len from (to - from)) }
 {
-    for i in from..to {
-        if has_carry(waiting, turns[i]) {
-            return Some(i);
-        }
-    }
-    None
+    (from..to).find(|i| has_carry(waiting, turns[*i]))
 }
 
 // The first turn, as they come round, whose board has a carry.
@@ -52,17 +44,14 @@ fn turn_to_land(turns: &[u32], waiting: &Table<4>, turn: usize) -> Option<usize>
     requires { turn < length turns.now }
     ensures { result ≡ turn_to_land turns.now (lines_in waiting.now) turn }
 {
-    match first_turn(turns, waiting, turn, turns.len()) {
-        Some(i) => Some(i),
-        None => first_turn(turns, waiting, 0, turn),
-    }
+    first_turn(turns, waiting, turn, turns.len()).or_else(|| first_turn(turns, waiting, 0, turn))
 }
 
 fn turn_after(turns: &[u32], turn: usize) -> usize
     requires { turn < length turns.now }
     ensures { result ≡ turn_after turns.now turn }
 {
-    if turn + 1 < turns.len() { turn + 1 } else { 0 }
+    (turn + 1) % turns.len()
 }
 
 impl Rota {
@@ -142,13 +131,9 @@ impl Path for Rota {
         ensures own { LandsByTurn (lines_in self.old.waiting) self.old.turn result (lines_in self.new.waiting) self.new.turn }
         ensures idle { is_some result ≡ false → self.new ≡ self.old }
     {
-        match self.next_turn() {
-            None => None,
-            Some(turn) => {
-                self.turn = turn_after(&TURNS, turn);
-                self.waiting.land_of(TURNS[turn])
-            }
-        }
+        let turn = self.next_turn()?;
+        self.turn = turn_after(&TURNS, turn);
+        self.waiting.land_of(TURNS[turn])
     }
 
     fn newest(&self, board: u32, cell: u32) -> Result<Option<Carry>, Refusal> {

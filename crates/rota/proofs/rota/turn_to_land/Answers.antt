@@ -1,15 +1,13 @@
-use Rattle.std.proofs.Common.{length}
+use Rattle.std.proofs.Common.{◌-◌, length, arith}
+use Rattle.std.proofs.lemmas.Grind.{common_steps}
+use Rattle.std.proofs.lemmas.List.Folds.{find-append}
+use Rattle.std.specs.List.{range_with_len}
 use Rattle.carries.specs.Held.{lines_in}
 use Rattle.rota.specs.Turns.{can_land}
-use Rattle.rota.proofs.Rounds.{found-ahead, found-again}
 use Rattle.rota.proofs.rota.turn_to_land.Goals as goal
 
-pub returns-in-Some : goal.returns-in-Some
-returns-in-Some c =
-    let ts = c.args.turns.now in
-    found-ahead (can_land ts (lines_in c.args.waiting.now)) (length ts) c.args.turn c.in-Some.i c.in-Some.ensures
-
-pub returns-in-None : goal.returns-in-None
-returns-in-None c =
-    let ts = c.args.turns.now in
-    found-again (can_land ts (lines_in c.args.waiting.now)) (length ts) c.args.turn c.first_turn-in-None.result c.in-None.ensures c.first_turn-in-None.ensures
+pub returns : goal.returns
+returns c =
+    let n = length c.args.turns.now in
+    let t = c.args.turn in
+    grind (arith, common_steps, find-append (can_land c.args.turns.now (lines_in c.args.waiting.now)) (range_with_len t (n - t)) (range_with_len 0 t))
