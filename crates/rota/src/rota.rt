@@ -24,36 +24,6 @@ pub struct Rota {
     ghost within: { turn < 16 },
 }
 
-// Whether a board has a carry.
-fn has_carry(waiting: &Table<4>, board: u32) -> bool
-    ensures { result ≡ waits (line (lines_in waiting.now) board) }
-{
-    waiting.count(board).is_ok_and(|count| count > 0)
-}
-
-// The first turn of those from `from` up to `to` whose board has a carry.
-fn first_turn(turns: &[u32], waiting: &Table<4>, from: usize, to: usize) -> Option<usize>
-    requires { to ≤ length turns.now }
-    ensures { result ≡ find (can_land turns.now (lines_in waiting.now)) (range_with_len from (to - from)) }
-{
-    (from..to).find(|i| has_carry(waiting, turns[*i]))
-}
-
-// The first turn, as they come round, whose board has a carry.
-fn turn_to_land(turns: &[u32], waiting: &Table<4>, turn: usize) -> Option<usize>
-    requires { turn < length turns.now }
-    ensures { result ≡ turn_to_land turns.now (lines_in waiting.now) turn }
-{
-    first_turn(turns, waiting, turn, turns.len()).or_else(|| first_turn(turns, waiting, 0, turn))
-}
-
-fn turn_after(turns: &[u32], turn: usize) -> usize
-    requires { turn < length turns.now }
-    ensures { result ≡ turn_after turns.now turn }
-{
-    (turn + 1) % turns.len()
-}
-
 impl Rota {
     // A rota on which nothing waits, at its first turn.
     pub fn new() -> Self
@@ -73,24 +43,32 @@ impl Rota {
         ensures bound { LandsWithin result fixed_turns 4 }
         ensures others { (ts : List ℕ) (n : ℕ) → EveryBoard ts → LandsWithin (length ts) ts n }
     {
-        Self::round()
-    }
-
-    // The number of turns in a round.
-    fn round() -> u32
-        ensures count { result ≡ 16 }
-        ensures bound { LandsWithin result fixed_turns 4 }
-        ensures others { (ts : List ℕ) (n : ℕ) → EveryBoard ts → LandsWithin (length ts) ts n }
-    {
         TURNS.len() as u32
     }
 
-    // The turn that the next landing serves.
+    // Whether the board of a turn has a carry.
+    fn can_land(&self, turn: usize) -> bool
+        requires { turn < 16 }
+        ensures { result ≡ can_land fixed_turns (lines_in self.now.waiting) turn }
+    {
+        self.waiting.count(TURNS[turn]).is_ok_and(|count| count > 0)
+    }
+
+    // The first turn of those from `from` up to `to` whose board has a carry.
+    fn first_turn(&self, from: usize, to: usize) -> Option<usize>
+        requires { to ≤ 16 }
+        ensures { result ≡ find (can_land fixed_turns (lines_in self.now.waiting)) (range_with_len from (to - from)) }
+    {
+        (from..to).find(|turn| self.can_land(*turn))
+    }
+
+    // The turn that the next landing serves: the first, as they come round, whose board has a carry.
     fn next_turn(&self) -> Option<usize>
         ensures value { result ≡ turn_to_land fixed_turns (lines_in self.now.waiting) self.now.turn }
         ensures served { Served fixed_turns (lines_in self.now.waiting) result }
     {
-        turn_to_land(&TURNS, &self.waiting, self.turn)
+        self.first_turn(self.turn, TURNS.len())
+            .or_else(|| self.first_turn(0, self.turn))
     }
 }
 
@@ -132,7 +110,7 @@ impl Path for Rota {
         ensures idle { is_some result ≡ false → self.new ≡ self.old }
     {
         let turn = self.next_turn()?;
-        self.turn = turn_after(&TURNS, turn);
+        self.turn = (turn + 1) % TURNS.len();
         self.waiting.land_of(TURNS[turn])
     }
 
