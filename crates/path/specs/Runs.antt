@@ -1,5 +1,5 @@
 -- Whole runs of a path: a list of orders, what each was answered, and how the lines come out.
-use Rattle.std.specs.Prelude.{◌≡◌, ℕ, List, [], ◌∷◌, ◌++◌, length, take, drop, Some, None, Ok, Err, filter, Result}
+use Rattle.std.specs.Prelude.{◌≡◌, ℕ, List, [], ◌∷◌, ◌++◌, length, take, drop, Some, None, Ok, Err, filter, Option, Result}
 use Rattle.model.specs.declared.carry.Carry.{Carry}
 use Rattle.model.specs.declared.refusal.Refusal.{Refusal}
 use Rattle.carries.specs.Lines.{of_lane, lane, start_at, started}
@@ -12,6 +12,10 @@ use Rattle.path.specs.declared.order.Reply.TheVariants.{Started, Refused, Landed
 abbrev pub start_reply : Result (Unit {0}) Refusal → Reply
 start_reply (Ok _) = Started
 start_reply (Err e) = Refused e
+
+abbrev pub land_reply : Option Carry → Reply
+land_reply None = NothingWaits
+land_reply (Some x) = Landed x
 
 abbrev pub LandReply : List (List Carry) → Reply → List (List Carry) → Type 0
 LandReply ls (Landed x) ls' = lines.Landed ls (Some x) ls'

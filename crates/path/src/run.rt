@@ -10,14 +10,8 @@ fn perform<P: Path>(path: &mut P, order: Order) -> Reply
     ensures { Takes P.Path.LENGTH (P.Path.lines path.old) order result (P.Path.lines path.new) }
 {
     match order {
-        Order::Start(carry) => match path.start(carry) {
-            Ok(()) => Reply::Started,
-            Err(refusal) => Reply::Refused(refusal),
-        },
-        Order::Land => match path.land() {
-            Some(carry) => Reply::Landed(carry),
-            None => Reply::NothingWaits,
-        },
+        Order::Start(carry) => path.start(carry).into(),
+        Order::Land => path.land().into(),
     }
 }
 
