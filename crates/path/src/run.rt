@@ -19,6 +19,7 @@ fn perform_all<P: Path>(path: &mut P, orders: &[Order], replies: &mut [Reply])
     requires { length orders.now ≤ length replies.old }
     ensures { Ran P.Path.LENGTH (P.Path.lines path.old) orders.now replies.old replies.new (P.Path.lines path.new) }
 {
+    // By index: what a loop writes through `zip` the proof doesn't know after it.
     for (i, order) in orders.iter().enumerate() {
         replies[i] = perform(path, *order);
     }
