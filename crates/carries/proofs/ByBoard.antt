@@ -1,14 +1,14 @@
 -- Carries of all boards in the order started: the eight lines that they make, with one more and with one less.
-use Rattle.std.proofs.Common.{◌≡◌, ℕ, zero, suc, ◌+◌, ◌*◌, ◌<◌, ◌≤◌, Bool, true, false, cond, ◌&&◌, eqb, ltb, ◌≢◌, List, [], ◌∷◌, ◌++◌, length, get_or, take, drop, set, Some, None, Ok, filter, Option, Result, sym, refl, ap, ◌∙◌, subst, ⊎_elim, add-one, arith}
+use Rattle.std.proofs.Common.{◌≡◌, ℕ, zero, suc, ◌+◌, ◌*◌, ◌<◌, ◌≤◌, Bool, true, false, ◌&&◌, eqb, ltb, ◌≢◌, List, [], ◌∷◌, ◌++◌, length, get_or, take, drop, set, Some, None, Ok, filter, Option, Result, sym, refl, ap, ◌∙◌, subst, ⊎_elim, arith}
 use Rattle.std.specs.List.{remove, AllByRecursion, position, position_or_len}
-use Rattle.std.proofs.lemmas.List.{set-get_or, length-set, get_or-set_same, get_or-set_other, ext_get_or, length_push, append-nil, take-append-drop, drop_more, get_or_past}
+use Rattle.std.proofs.lemmas.List.{set-get_or, length-set, ext_get_or, append-nil, get_or_past}
 use Rattle.std.proofs.lemmas.List.Elements.{filter-append}
 use Rattle.std.proofs.lemmas.List.Folds.{list_all-append}
 use Rattle.std.proofs.lemmas.List.Quantifiers.{position-Some}
 use Rattle.std.proofs.lemmas.Bool.Decides.{nat_tests}
 use Rattle.std.proofs.lemmas.Grind.{common_steps}
 use Rattle.std.proofs.lemmas.List.FromFn.{length-map-range_with_len, get_or-map-range_with_len}
-use Rattle.std.proofs.lemmas.Bool.{cases_eq, cases_lt, cond-true, cond-false, cond_both, cases_Bool, and_parts, and_from, and_left, eq-eqb, ne_eqb, eqb-true, ltb-true}
+use Rattle.std.proofs.lemmas.Bool.{cases_lt, eqb-true}
 use Rattle.model.specs.declared.carry.Carry.{Carry}
 use Rattle.model.specs.declared.refusal.Refusal.{Refusal}
 use Rattle.carries.specs.Lines.{line, of_lane, lane, oldest, without, joined, checked, start_at, if_started, started, Landed, Proper}
@@ -25,36 +25,33 @@ line-of xs b h = get_or-map-range_with_len (λ b. line_of b xs) 0 8 b b [] h (om
 pub line-past : (xs : List Carry) (b : ℕ) → 8 ≤ b → line (lines_of xs) b ≡ []
 line-past xs b h = get_or_past (lines_of xs) b [] (omega (arith, lines-length xs))
 
+-- what holds of no carries and of those of board b holds of the line of board b
+line-is : (P : List Carry → Type 0) (xs : List Carry) (b : ℕ) → P [] → P (line_of b xs) → P (line (lines_of xs) b)
+line-is P xs b none some = ⊎_elim (λ (h : b < 8). subst P (sym (line-of xs b h)) some) (λ (h : 8 ≤ b). subst P (sym (line-past xs b h)) none) (cases_lt b 8)
+
 -- ys has another line of board b than xs, and else the same lines
 module _ (xs ys : List Carry) (b : ℕ) (l : List Carry) (inside : b < 8) (here : line_of b ys ≡ l) (there : (k : ℕ) → k ≢ b → line_of k ys ≡ line_of k xs) where
   lines-set : lines_of ys ≡ set (lines_of xs) b l
   lines-set =
       ext_get_or [] (lines_of ys) (set (lines_of xs) b l)
       (lines-length ys ∙ sym (length-set (lines_of xs) b l ∙ lines-length xs))
-      (λ k h.
-      let k-in : k < 8 = omega (arith, lines-length ys) in
-      let b-in : b < length (lines_of xs) = omega (arith, lines-length xs) in
-      line-of ys k k-in
-      ∙ ⊎_elim
-      (λ (e : k ≡ b). ap (λ n. line_of n ys) e ∙ here ∙ sym (ap (λ n. get_or (set (lines_of xs) b l) n []) e ∙ get_or-set_same (lines_of xs) b l [] b-in))
-      (λ (ne : k ≡ b → ⊥). there k ne ∙ sym (get_or-set_other (lines_of xs) b k l [] ne ∙ line-of xs k k-in))
-      (cases_eq k b))
+      (λ k h. grind (arith, common_steps, line-of ys k, line-of xs k, there k, lines-length xs, lines-length ys))
 
 pub line-cons-same : (x : Carry) (xs : List Carry) → line_of x.board (x ∷ xs) ≡ x ∷ line_of x.board xs
-line-cons-same x xs = cond-true (eqb x.board x.board) (x ∷ line_of x.board xs) (line_of x.board xs) (eq-eqb x.board x.board refl)
+line-cons-same x xs = grind (arith, nat_tests)
 
 pub line-cons-other : (x : Carry) (xs : List Carry) (k : ℕ) → k ≢ x.board → line_of k (x ∷ xs) ≡ line_of k xs
-line-cons-other x xs k ne = cond-false (eqb x.board k) (x ∷ line_of k xs) (line_of k xs) (ne_eqb x.board k (λ q. ne (sym q)))
+line-cons-other x xs k ne = grind (arith, nat_tests)
 
 line-append : (k : ℕ) (xs ys : List Carry) → line_of k (xs ++ ys) ≡ line_of k xs ++ line_of k ys
 line-append k xs ys = filter-append (λ x. eqb x.board k) xs ys
 
 -- one more at the end
 line-push-same : (x : Carry) (xs : List Carry) → line_of x.board (xs ++ x ∷ []) ≡ line_of x.board xs ++ x ∷ []
-line-push-same x xs = line-append x.board xs (x ∷ []) ∙ ap (λ l. line_of x.board xs ++ l) (line-cons-same x [])
+line-push-same x xs = grind (arith, nat_tests, line-append x.board xs (x ∷ []))
 
 line-push-other : (x : Carry) (xs : List Carry) (k : ℕ) → k ≢ x.board → line_of k (xs ++ x ∷ []) ≡ line_of k xs
-line-push-other x xs k ne = line-append k xs (x ∷ []) ∙ ap (λ l. line_of k xs ++ l) (line-cons-other x [] k ne) ∙ append-nil (line_of k xs)
+line-push-other x xs k ne = grind (arith, nat_tests, line-append k xs (x ∷ []), append-nil (line_of k xs))
 
 pub lines-push : (xs : List Carry) (x : Carry) → x.board < 8 → lines_of (xs ++ x ∷ []) ≡ set (lines_of xs) x.board (line (lines_of xs) x.board ++ x ∷ [])
 lines-push xs x h =
@@ -63,13 +60,7 @@ lines-push xs x h =
     (line-push-other x xs)
 
 pub short-push : (n : ℕ) (xs : List Carry) (x : Carry) → Short n xs → length (line_of x.board xs) < n → Short n (xs ++ x ∷ [])
-short-push n xs x s h b =
-    ⊎_elim
-    (λ (e : b ≡ x.board).
-    subst (λ k. length (line_of k (xs ++ x ∷ [])) ≤ n) (sym e)
-    (let long = ap length (line-push-same x xs) ∙ length_push (line_of x.board xs) x in omega arith))
-    (λ (ne : b ≡ x.board → ⊥). let long = ap length (line-push-other x xs b ne) in omega (arith, s b))
-    (cases_eq b x.board)
+short-push n xs x s h b = grind (arith, nat_tests, common_steps, line-append b xs (x ∷ []), s b)
 
 located-append : (xs ys : List Carry) → located (xs ++ ys) ≡ (located xs && located ys)
 located-append xs ys = list_all-append (λ x. ltb x.board 8 && ltb x.cell 64) xs ys
@@ -88,35 +79,18 @@ total-none (suc n) = omega (arith, total-none n)
 
 total-past : (n : ℕ) (x : Carry) (xs : List Carry) → n ≤ x.board → total n (x ∷ xs) ≡ total n xs
 total-past zero x xs h = refl
-total-past (suc n) x xs h =
-    let before = total-past n x xs (omega arith) in
-    let here = ap length (line-cons-other x xs n (λ e. omega arith)) in
-    omega arith
+total-past (suc n) x xs h = grind (arith, nat_tests, total-past n x xs)
 
 total-cons : (n : ℕ) (x : Carry) (xs : List Carry) → x.board < n → total n (x ∷ xs) ≡ total n xs + 1
 total-cons zero x xs h = absurd (omega arith)
-total-cons (suc n) x xs h =
-    ⊎_elim
-    (λ (e : x.board ≡ n).
-    let before = total-past n x xs (omega arith) in
-    let here : length (line_of n (x ∷ xs)) ≡ suc (length (line_of n xs)) = subst (λ k. length (line_of k (x ∷ xs)) ≡ suc (length (line_of k xs))) e (ap length (line-cons-same x xs)) in
-    omega arith)
-    (λ (ne : x.board ≡ n → ⊥).
-    let less : x.board < n = omega arith in
-    let before = total-cons n x xs less in
-    let here = ap length (line-cons-other x xs n (λ e. ne (sym e))) in
-    omega arith)
-    (cases_eq x.board n)
+total-cons (suc n) x xs h = grind (arith, nat_tests, total-cons n x xs, total-past n x xs)
 
 board-in : (x : Carry) (xs : List Carry) → located (x ∷ xs) ≡ true → x.board < 8
-board-in x xs l = ltb-true x.board 8 (and_parts (ltb x.board 8) (ltb x.cell 64) (and_parts (ltb x.board 8 && ltb x.cell 64) (located xs) l).0).0
+board-in x xs l = grind (arith, nat_tests)
 
 length-total : (xs : List Carry) → located xs ≡ true → length xs ≡ total 8 xs
 length-total [] l = sym (total-none 8)
-length-total (x ∷ xs) l =
-    let rest = length-total xs (and_parts (ltb x.board 8 && ltb x.cell 64) (located xs) l).1 in
-    let more = total-cons 8 x xs (board-in x xs l) in
-    omega arith
+length-total (x ∷ xs) l = grind (arith, nat_tests, length-total xs, total-cons 8 x xs)
 
 total-most : (n : ℕ) (xs : List Carry) → Short 8 xs → total n xs ≤ n * 8
 total-most zero xs s = omega arith
@@ -124,11 +98,7 @@ total-most (suc n) xs s = omega (arith, total-most n xs s, s n)
 
 total-room : (n b : ℕ) (xs : List Carry) → Short 8 xs → b < n → length (line_of b xs) < 8 → total n xs < n * 8
 total-room zero b xs s h r = omega arith
-total-room (suc n) b xs s h r =
-    ⊎_elim
-    (λ (e : b ≡ n). let here : length (line_of n xs) < 8 = subst (λ k. length (line_of k xs) < 8) e r in omega (arith, total-most n xs s))
-    (λ (ne : b ≡ n → ⊥). let less : b < n = omega arith in omega (arith, total-room n b xs s less r, s n))
-    (cases_eq b n)
+total-room (suc n) b xs s h r = grind (arith, total-most n xs s, total-room n b xs s, s n)
 
 -- where one board has fewer than eight, all together are fewer than 64
 pub room : (b : ℕ) (xs : List Carry) → located xs ≡ true → Short 8 xs → b < 8 → length (line_of b xs) < 8 → length xs < 64
@@ -153,35 +123,22 @@ located-at [] i x within read l = absurd (omega arith)
 located-at (y ∷ ys) zero x within read l = grind (arith, nat_tests)
 located-at (y ∷ ys) (suc i) x within read l = located-at ys i x (omega arith) read (grind (arith, nat_tests))
 
--- x, at place i, is the first of its board
+-- another line than that of x, at place i, stays
+line-other : (xs : List Carry) (i : ℕ) (x : Carry) → i < length xs → x ≡ get_or xs i x → (k : ℕ) → k ≢ x.board → line_of k (remove xs i) ≡ line_of k xs
+line-other [] i x within read k ne = absurd (omega arith)
+line-other (y ∷ ys) zero x within read k ne = grind (arith, nat_tests)
+line-other (y ∷ ys) (suc i) x within read k ne = grind (arith, nat_tests, line-other ys i x)
+
+-- x, at place i, is the first of its board: it heads its line, and the rest of the line is what is left of it
+line-first : (xs : List Carry) (i : ℕ) (x : Carry) → i < length xs → x ≡ get_or xs i x → line_of x.board (take i xs) ≡ [] → line_of x.board xs ≡ x ∷ line_of x.board (remove xs i)
+line-first [] i x within read first = absurd (omega arith)
+line-first (y ∷ ys) zero x within read first = grind (arith, nat_tests)
+line-first (y ∷ ys) (suc i) x within read first = grind (arith, nat_tests, line-first ys i x)
+
 module _ (xs : List Carry) (i : ℕ) (x : Carry) (within : i < length xs) (read : x ≡ get_or xs i x) (first : line_of x.board (take i xs) ≡ []) where
-  split : xs ≡ take i xs ++ x ∷ drop (i + 1) xs
-  split = sym (take-append-drop i xs) ∙ ap (λ l. take i xs ++ l) (drop_more xs i x within ∙ ap (λ y. y ∷ drop (i + 1) xs) (sym read))
-
-  removed-is : remove xs i ≡ take i xs ++ drop (i + 1) xs
-  removed-is = ap (λ n. take i xs ++ drop n xs) (sym (add-one i))
-
-  line-removed-other : (k : ℕ) → k ≢ x.board → line_of k (remove xs i) ≡ line_of k xs
-  line-removed-other k ne =
-      ap (line_of k) removed-is
-      ∙ line-append k (take i xs) (drop (i + 1) xs)
-      ∙ ap (λ l. line_of k (take i xs) ++ l) (sym (line-cons-other x (drop (i + 1) xs) k ne))
-      ∙ sym (line-append k (take i xs) (x ∷ drop (i + 1) xs))
-      ∙ ap (line_of k) (sym split)
-
-  -- it heads its line, and the rest of the line is what is left of it
-  line_first : line_of x.board xs ≡ x ∷ line_of x.board (remove xs i)
-  line_first =
-      ap (line_of x.board) split
-      ∙ line-append x.board (take i xs) (x ∷ drop (i + 1) xs)
-      ∙ ap (λ l. l ++ line_of x.board (x ∷ drop (i + 1) xs)) first
-      ∙ line-cons-same x (drop (i + 1) xs)
-      ∙ ap (λ l. x ∷ l)
-      (sym (ap (line_of x.board) removed-is ∙ line-append x.board (take i xs) (drop (i + 1) xs) ∙ ap (λ l. l ++ line_of x.board (drop (i + 1) xs)) first))
-
   module _ (known : located xs ≡ true) where
     head-line : line (lines_of xs) x.board ≡ x ∷ line_of x.board (remove xs i)
-    head-line = line-of xs x.board (located-at xs i x within read known) ∙ line_first
+    head-line = line-of xs x.board (located-at xs i x within read known) ∙ line-first xs i x within read first
 
     pub head-oldest : Some x ≡ oldest (line (lines_of xs) x.board)
     head-oldest = sym (ap oldest head-line)
@@ -190,29 +147,21 @@ module _ (xs : List Carry) (i : ℕ) (x : Carry) (within : i < length xs) (read 
     lines-removed =
         lines-set xs (remove xs i) x.board (drop 1 (line (lines_of xs) x.board)) (located-at xs i x within read known)
         (sym (ap (drop 1) head-line))
-        line-removed-other
-
-    of-itself : of_lane x.board x.cell x ≡ true
-    of-itself = and_from (eqb x.board x.board) (eqb x.cell x.cell) (eq-eqb x.board x.board refl) (eq-eqb x.cell x.cell refl)
+        (line-other xs i x within read)
 
     pub landed : Landed (lines_of xs) (Some x) (lines_of (remove xs i))
-    landed =
-        let b = x.board in
-        let c = x.cell in
-        let rest = line_of b (remove xs i) in (
-          ap (λ l. oldest (filter (of_lane b c) l)) head-line ∙ ap oldest (cond-true (of_lane b c x) (x ∷ filter (of_lane b c) rest) (filter (of_lane b c) rest) of-itself),
-          lines-removed ∙ ap (set (lines_of xs) b) (ap (drop 1) head-line ∙ sym (ap (without b c) head-line ∙ cond-true (of_lane b c x) rest (x ∷ without b c rest) of-itself)),
-        )
+    landed = (
+      ap (λ l. oldest (filter (of_lane x.board x.cell) l)) head-line ∙ grind (arith, nat_tests),
+      lines-removed ∙ ap (set (lines_of xs) x.board) (ap (drop 1) head-line ∙ sym (ap (without x.board x.cell) head-line ∙ grind (arith, nat_tests))),
+    )
 
 pub nothing-waits : Landed (lines_of []) None (lines_of [])
-nothing-waits = (λ b. ⊎_elim (λ (h : b < 8). line-of [] b h) (λ (h : 8 ≤ b). line-past [] b h) (cases_lt b 8), refl)
+nothing-waits = (λ b. line-is (λ l. l ≡ []) [] b refl refl, refl)
 
 -- the first of all lands, if there is one
 pub landed-first : (xs : List Carry) (r : Option Carry) (ys : List Carry) → located xs ≡ true → r ≡ oldest xs → ys ≡ drop 1 xs → Landed (lines_of xs) r (lines_of ys)
-landed-first [] r ys l is rest = subst (λ r. Landed (lines_of []) r (lines_of ys)) (sym is) (subst (λ ys. Landed (lines_of []) None (lines_of ys)) (sym rest) nothing-waits)
-landed-first (x ∷ xs) r ys l is rest =
-    subst (λ r. Landed (lines_of (x ∷ xs)) r (lines_of ys)) (sym is)
-    (subst (λ ys. Landed (lines_of (x ∷ xs)) (Some x) (lines_of ys)) (sym rest) (landed (x ∷ xs) 0 x (omega arith) refl refl l))
+landed-first [] r ys l is rest = rw (is, rest) nothing-waits
+landed-first (x ∷ xs) r ys l is rest = rw (is, rest) (landed (x ∷ xs) 0 x (omega arith) refl refl l)
 
 -- the checks of a call let a board and a cell through: then they exist, and the answer is what it is without them
 pub checks : (b c : ℕ) (u : Unit {0}) → checked b c (Ok tt) ≡ Ok u → (b < 8) × (c < 64)
@@ -227,40 +176,18 @@ started-is n ls x h k r = let new = set ls x.board (joined (line ls x.board) x) 
 -- a lane of a board's line is the lane among all
 lane-line : (b c : ℕ) (xs : List Carry) → filter (of_lane b c) (line_of b xs) ≡ filter (of_lane b c) xs
 lane-line b c [] = refl
-lane-line b c (x ∷ xs) =
-    ⊎_elim
-    (λ (e : eqb x.board b ≡ true).
-    ap (filter (of_lane b c)) (cond-true (eqb x.board b) (x ∷ line_of b xs) (line_of b xs) e) ∙ ap (λ l. cond (of_lane b c x) (x ∷ l) l) (lane-line b c xs))
-    (λ (e : eqb x.board b ≡ false).
-    ap (filter (of_lane b c)) (cond-false (eqb x.board b) (x ∷ line_of b xs) (line_of b xs) e)
-    ∙ lane-line b c xs
-    ∙ sym (cond-false (of_lane b c x) (x ∷ filter (of_lane b c) xs) (filter (of_lane b c) xs) (and_left (eqb x.board b) (eqb x.cell c) e)))
-    (cases_Bool (eqb x.board b))
+lane-line b c (x ∷ xs) = grind (arith, nat_tests, lane-line b c xs)
 
 own : (b : ℕ) (xs : List Carry) → located xs ≡ true → AllByRecursion (λ x. (x.board ≡ b) × (x.cell ≤ 63)) (line_of b xs)
 own b [] l = tt
-own b (x ∷ xs) l =
-    let P : Carry → Type 0 = λ x. (x.board ≡ b) × (x.cell ≤ 63) in
-    let parts = and_parts (ltb x.board 8 && ltb x.cell 64) (located xs) l in
-    let cell : x.cell < 64 = ltb-true x.cell 64 (and_parts (ltb x.board 8) (ltb x.cell 64) parts.0).1 in
-    cond_both (eqb x.board b) (x ∷ line_of b xs) (line_of b xs) (AllByRecursion P)
-    (λ e. ((eqb-true x.board b e, omega arith), own b xs parts.1))
-    (λ _. own b xs parts.1)
+own b (x ∷ xs) l = grind (arith, nat_tests, own b xs)
 
 pub proper : (n : ℕ) (xs : List Carry) → located xs ≡ true → Short n xs → Proper n (lines_of xs)
 proper n xs l s =
     record {
       eight = lines-length xs;
-      own = λ b.
-          ⊎_elim
-          (λ (h : b < 8). subst (AllByRecursion (λ x. (x.board ≡ b) × (x.cell ≤ 63))) (sym (line-of xs b h)) (own b xs l))
-          (λ (h : 8 ≤ b). subst (AllByRecursion (λ x. (x.board ≡ b) × (x.cell ≤ 63))) (sym (line-past xs b h)) tt)
-          (cases_lt b 8);
-      short = λ b.
-          ⊎_elim
-          (λ (h : b < 8). subst (λ l. length l ≤ n) (sym (line-of xs b h)) (s b))
-          (λ (h : 8 ≤ b). subst (λ l. length l ≤ n) (sym (line-past xs b h)) (omega arith))
-          (cases_lt b 8);
+      own = λ b. line-is (AllByRecursion (λ x. (x.board ≡ b) × (x.cell ≤ 63))) xs b tt (own b xs l);
+      short = λ b. line-is (λ l. length l ≤ n) xs b (omega arith) (s b);
     }
 
 pub lane_of : (xs : List Carry) (b c : ℕ) → b < 8 → lane (lines_of xs) b c ≡ filter (of_lane b c) xs
@@ -277,8 +204,7 @@ module _ (b : ℕ) where
   found (x ∷ xs) zero d h is others = (refl, grind (arith, nat_tests))
   found (x ∷ xs) (suc i) d h is others =
       let here : eqb x.board b ≡ false = others 0 (omega arith) in
-      let rest = found xs i d (omega arith) is (λ k l. others (suc k) (omega arith)) in
-      (grind (arith, nat_tests, here, rest.0), grind (arith, nat_tests, here, rest.1))
+      grind (arith, nat_tests, here, found xs i d (omega arith) is (λ k l. others (suc k) (omega arith)))
 
   absent : (xs : List Carry) → length xs ≤ position_or_len of-board xs → (line_of b xs ≡ []) × (xs ≡ without_first b xs)
   absent [] h = (refl, refl)
@@ -292,7 +218,7 @@ module _ (b : ℕ) where
       → (None ≡ oldest (line (lines_of xs) b)) × (lines_of xs ≡ set (lines_of xs) b (drop 1 (line (lines_of xs) b))) × (xs ≡ without_first b xs)
   none-lands xs e =
       let none = not_found xs e in
-      let empty : line (lines_of xs) b ≡ [] = ⊎_elim (λ (h : b < 8). line-of xs b h ∙ none.0) (λ (h : 8 ≤ b). line-past xs b h) (cases_lt b 8) in
+      let empty : line (lines_of xs) b ≡ [] = line-is (λ l. l ≡ []) xs b refl none.0 in
       (sym (ap oldest empty), sym (ap (set (lines_of xs) b) (ap (drop 1) empty ∙ sym empty) ∙ set-get_or (lines_of xs) b []), none.1)
 
   pub lands : (xs : List Carry) (i : ℕ) (x : Carry) → located xs ≡ true → position of-board xs ≡ Some i → x ≡ get_or xs i x
