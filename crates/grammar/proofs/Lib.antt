@@ -1,3 +1,2 @@
 pub mod Bytes
-pub mod Digits
 pub mod Prints

@@ -1,6 +1,9 @@
 ghost use Rattle.std.specs.Prelude.{◌≡◌, Some};
+ghost use Rattle.std.specs.Option.{option_map};
+ghost use Rattle.grammar.specs.declared.kind.Kind.TheVariants.{Run};
+ghost use Rattle.grammar.specs.declared.trace_step.TraceStep.TheVariants.{Plain};
 ghost use Rattle.grammar.specs.Pieces.{shown};
-ghost use Rattle.grammar.specs.Steps.{read_of, step_of, room as room_for, step_said};
+ghost use Rattle.grammar.specs.Steps.{step_of, room as room_for, step_said};
 
 use super::item::Item;
 use super::kind::Kind;
@@ -12,52 +15,33 @@ use model::step::Step;
 // The most steps of a trace.
 const MOST_STEPS: u32 = 2_048;
 
-fn read_of(kind: Kind, rest: &[u8]) -> Option<TraceStep>
-    ensures { result ≡ read_of kind rest.now }
+// The step that a letter and the rest of its line say in a run.
+fn run_step(letter: u8, rest: &[u8]) -> Option<Step>
+    ensures { option_map Plain result ≡ step_of Run letter rest.now }
 {
-    match kind {
-        Kind::Run => {
-            let (board, cell) = place_alone(rest)?;
-            Some(TraceStep::Plain(Step::Read { board, cell }))
-        }
-        Kind::Log => {
-            let ((board, cell), word) = place_word(rest)?;
-            Some(TraceStep::ReadWord { board, cell, word })
-        }
+    match letter as char {
+        'r' => place_alone(rest).map(|(board, cell)| Step::Read { board, cell }),
+        'w' => place_word(rest).map(|((board, cell), word)| Step::Write { board, cell, word }),
+        'a' => place_alone(rest).map(|(board, cell)| Step::Acquire { board, cell }),
+        'l' => place_alone(rest).map(|(board, cell)| Step::Release { board, cell }),
+        'b' => place_alone(rest).map(|(board, cell)| Step::WriteBack { board, cell }),
+        'e' => place_alone(rest).map(|(board, cell)| Step::Eject { board, cell }),
+        'd' => rest.is_empty().then_some(Step::Land),
+        _ => None,
     }
 }
 
-// The step that a letter and the rest of its line say, in a trace of that kind.
+// The same in a trace of that kind: in a log a read adds the word read.
 fn step_of(kind: Kind, letter: u8, rest: &[u8]) -> Option<TraceStep>
     ensures { result ≡ step_of kind letter rest.now }
 {
-    match letter as char {
-        'r' => read_of(kind, rest),
-        'w' => {
-            let ((board, cell), word) = place_word(rest)?;
-            Some(TraceStep::Plain(Step::Write { board, cell, word }))
-        }
-        'a' => {
-            let (board, cell) = place_alone(rest)?;
-            Some(TraceStep::Plain(Step::Acquire { board, cell }))
-        }
-        'l' => {
-            let (board, cell) = place_alone(rest)?;
-            Some(TraceStep::Plain(Step::Release { board, cell }))
-        }
-        'b' => {
-            let (board, cell) = place_alone(rest)?;
-            Some(TraceStep::Plain(Step::WriteBack { board, cell }))
-        }
-        'e' => {
-            let (board, cell) = place_alone(rest)?;
-            Some(TraceStep::Plain(Step::Eject { board, cell }))
-        }
-        'd' => match rest {
-            [] => Some(TraceStep::Plain(Step::Land)),
-            _ => None,
-        },
-        _ => None,
+    match (kind, letter as char) {
+        (Kind::Log, 'r') => place_word(rest).map(|((board, cell), word)| TraceStep::ReadWord {
+            board,
+            cell,
+            word,
+        }),
+        _ => run_step(letter, rest).map(TraceStep::Plain),
     }
 }
 

@@ -12,7 +12,7 @@ pub enum TraceStep {
 }
 
 impl TraceStep {
-    // The step that the line names, without the word that a log adds.
+    // The step that the line names, without the word that a log adds. A method and no `From`, since the word is lost.
     pub fn step(self) -> Step
         ensures { result ≡ plain_step self }
     {

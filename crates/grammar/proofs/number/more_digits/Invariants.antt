@@ -1,7 +1,10 @@
-use Rattle.std.proofs.Common.{◌≡◌, ◌≤◌, drop}
+use Rattle.std.proofs.Common.{◌≡◌, length}
 use Rattle.grammar.specs.Numbers.{digits}
 use Rattle.grammar.proofs.number.more_digits.Given as goal
 
 -- what the digits from here on give is what all of them give
-abbrev pub invariant-loop-i : goal.invariant-loop-i
-invariant-loop-i l = (l.n ≤ 4294967295) × (digits l.n (drop l.i l.s) ≡ digits l.start l.s)
+abbrev pub invariant-loop-rest : goal.invariant-loop-rest
+invariant-loop-rest l = digits l.n l.rest ≡ digits l.start l.s
+
+abbrev pub decreases-loop-rest : goal.decreases-loop-rest
+decreases-loop-rest l = length l.rest

@@ -1,7 +1,0 @@
-use Rattle.std.proofs.lemmas.Slice.Eq.{strip_prefix_is}
-use Rattle.grammar.proofs.Bytes.{after_is}
-use Rattle.grammar.proofs.header_line.after.Goals as goal
-use Rattle.std.proofs.lemmas.Bool.Decides.{Decides-eqb}
-
-pub returns : goal.returns
-returns c = after_is c.args.front.now c.args.line.now _ (strip_prefix_is Decides-eqb _ _ _ c.strip_prefix.ensures.cases)
