@@ -1,5 +1,5 @@
 -- A text as a list of lines.
-use Rattle.std.specs.Prelude.{ℕ, suc, cond, List, [], ◌∷◌, length, Some, None, Option, ◌==◌, nat_lt}
+use Rattle.std.specs.Prelude.{ℕ, cond, List, [], ◌∷◌, length, Some, None, Option, ◌==◌, nat_lt}
 
 -- one byte more at the front of the first line
 abbrev pub grown : ℕ → List (Option (List ℕ)) → List (Option (List ℕ))
@@ -15,8 +15,3 @@ lines (c ∷ cs) = cond (c == 10) (Some [] ∷ lines cs) (grown c (lines cs))
 -- of a text of more than 60,000 bytes no line is read
 abbrev pub readable : List ℕ → List ℕ
 readable text = cond (nat_lt 60000 (length text)) [] text
-
--- how many bytes stand before the first b, or all of them
-abbrev pub before : ℕ → List ℕ → ℕ
-before b [] = 0
-before b (c ∷ cs) = cond (c == b) 0 (suc (before b cs))

@@ -1,9 +1,10 @@
 -- What the lines of a text tell once the remarks are left out: each line that is none, under its number.
-use Rattle.std.specs.Prelude.{ℕ, ◌+◌, cond, List, [], ◌∷◌, length, Ok, Err, Option, Result}
+use Rattle.std.specs.Prelude.{◌≡◌, ℕ, ◌+◌, cond, List, [], ◌∷◌, length, Some, None, Ok, Err, Option, Result}
 use Rattle.model.specs.declared.refusal.Refusal.{Refusal}
 use Rattle.model.specs.declared.refusal.Refusal.TheVariants.{MalformedLine}
+use Rattle.grammar.specs.declared.item.Item.{Item}
 use Rattle.grammar.specs.Numbers.{and_then}
-use Rattle.grammar.specs.Pieces.{Piece, piece, is_remark}
+use Rattle.grammar.specs.Pieces.{Piece, piece, shown, is_remark}
 use Rattle.text.specs.declared.fault.Fault.{Fault}
 use Rattle.text.specs.Faults.{fault_at}
 
@@ -38,3 +39,8 @@ taking f (t ∷ ts) e = answered (f t.says) t ts e
 
 abbrev pub taken : {X : Type 0} → (Option Piece → Result X Refusal) → Left → Result X Fault × Left
 taken f a = taking f a.telling a.end
+
+-- what is made of a line is what f makes of its form; f makes nothing of a line without one
+pub record Says {X : Type 0} (post : Item → Result X Refusal → Type 0) (f : Option Piece → Result X Refusal) : Type 0 where
+  pub strict : f None ≡ Err MalformedLine
+  pub of_form : (item : Item) (r : Result X Refusal) → post item r → r ≡ f (Some (shown item))

@@ -14,7 +14,7 @@ fn walk(trace: &mut Trace<'_>) -> Result<(), Fault>
     ensures answer { result ≡ ending (course_of trace.old) }
     ensures header { trace.new.header ≡ trace.old.header }
 {
-    while let Some(_) = trace.next()? {}
+    while trace.next()?.is_some() {}
     Ok(())
 }
 

@@ -1,4 +1,5 @@
 ghost use Rattle.std.specs.Prelude.{◌≡◌};
+ghost use Rattle.model.specs.Refusals.{number_of};
 ghost use Rattle.text.specs.Faults.{layer_of, fault_at, at_line};
 
 use model::refusal::Refusal;
@@ -19,12 +20,12 @@ pub struct Fault {
     pub layer: Layer,
 }
 
-fn layer_of(number: u32) -> Layer
-    ensures { result ≡ layer_of number }
+fn layer_of(refusal: Refusal) -> Layer
+    ensures { result ≡ layer_of (number_of refusal) }
 {
-    match number {
-        3 => Layer::Header,
-        4 | 6 => Layer::Text,
+    match refusal {
+        Refusal::SizeOutOfRange => Layer::Header,
+        Refusal::MalformedLine | Refusal::TextTooLong => Layer::Text,
         _ => Layer::Judge,
     }
 }
@@ -33,11 +34,10 @@ impl Fault {
     pub fn new(refusal: Refusal, line: u32) -> Fault
         ensures { result ≡ fault_at refusal line }
     {
-        let layer = layer_of(refusal.number());
         Fault {
             refusal,
             line,
-            layer,
+            layer: layer_of(refusal),
         }
     }
 }
@@ -46,8 +46,5 @@ impl Fault {
 pub(crate) fn at_line<T>(answer: Result<T, Refusal>, line: u32) -> Result<T, Fault>
     ensures { result ≡ at_line answer line }
 {
-    match answer {
-        Ok(value) => Ok(value),
-        Err(refusal) => Err(Fault::new(refusal, line)),
-    }
+    answer.map_err(|refusal| Fault::new(refusal, line))
 }

@@ -6,7 +6,7 @@ pub mod calls;
 mod header_lines;
 mod lines;
 mod remarks;
-mod step_lines;
+mod tries;
 
 // The caller's text and how far it was read.
 #[derive(Drop)]

@@ -5,9 +5,9 @@ ghost use Rattle.text.specs.Lines.{readable, lines};
 ghost use Rattle.text.specs.Readers.{lines_ahead, first_piece, no_lines, left, Kept, Passed};
 ghost use Rattle.text.specs.Telling.{left_from};
 
-use super::super::position::{LineGuard, Position};
+use super::super::position::Position;
 use super::Reader;
-use super::lines::{none_left, take_item};
+use super::lines::none_left;
 use grammar::item::Item;
 
 // The most bytes of a text that is read.
@@ -18,20 +18,9 @@ impl<'a> Reader<'a> {
     pub fn new(text: &'a [u8]) -> Reader<'a>
         ensures ahead { lines_ahead result ≡ lines (readable text.now) }
         ensures line { result.at.line ≡ 0 }
+        ensures whole { left result ≡ left_from 1 (lines (readable text.now)) }
     {
-        if text.len() > MOST_BYTES {
-            Reader::over(&text[0..0])
-        } else {
-            Reader::over(text)
-        }
-    }
-
-    pub(crate) fn over(text: &'a [u8]) -> Reader<'a>
-        requires { length text.now ≤ 60000 }
-        ensures ahead { lines_ahead result ≡ lines text.now }
-        ensures line { result.at.line ≡ 0 }
-        ensures whole { left result ≡ left_from 1 (lines text.now) }
-    {
+        let text = if text.len() > MOST_BYTES { &[] } else { text };
         Reader {
             text,
             at: Position { byte: 0, line: 0 },
@@ -49,9 +38,6 @@ impl<'a> Reader<'a> {
         ensures item { option_map shown result ≡ first_piece (lines_ahead self.old) }
         ensures at { MatchOption result (Kept self.old self.new) (λ _. Passed self.old self.new) }
     {
-        let guard = LineGuard::new(&mut self.at);
-        let item = take_item(self.text, guard.at)?;
-        guard.keep();
-        Some(item)
+        self.try_line(Ok).ok()
     }
 }

@@ -2,10 +2,9 @@ ghost use Rattle.std.specs.Prelude.{◌≡◌, ◌+◌, false, MatchBool};
 ghost use Rattle.grammar.specs.Pieces.{is_remark};
 ghost use Rattle.text.specs.Readers.{lines_ahead, first_piece, left, Kept, Passed};
 
-use super::super::position::LineGuard;
 use super::Reader;
-use super::lines::take_item;
 use grammar::item::Item;
+use model::refusal::Refusal;
 
 impl Reader<'_> {
     // Passes the next line if it is a remark.
@@ -13,14 +12,11 @@ impl Reader<'_> {
         ensures answer { result ≡ is_remark (first_piece (lines_ahead self.old)) }
         ensures at { MatchBool result (Passed self.old self.new) (Kept self.old self.new) }
     {
-        let guard = LineGuard::new(&mut self.at);
-        match take_item(self.text, guard.at) {
-            Some(Item::Remark(_)) => {
-                guard.keep();
-                true
-            }
-            _ => false,
-        }
+        self.try_line(|item| match item {
+            Item::Remark(_) => Ok(()),
+            _ => Err(Refusal::MalformedLine),
+        })
+        .is_ok()
     }
 
     // Passes remarks up to a line that is none.

@@ -10,6 +10,7 @@ use super::super::reader::Reader;
 use super::super::reader::calls::MOST_BYTES;
 use super::Trace;
 use grammar::kind::Kind;
+use grammar::step_line::step_said;
 use model::refusal::Refusal;
 
 impl<'a> Trace<'a> {
@@ -18,17 +19,12 @@ impl<'a> Trace<'a> {
         ensures header { result.header ≡ header_in kind text.now }
         ensures course { course_of result ≡ course_in kind text.now }
     {
-        if text.len() > MOST_BYTES {
-            let header = Err(Fault::new(Refusal::TextTooLong, 0));
-            return Trace {
-                kind,
-                header,
-                steps: 0,
-                reader: Reader::new(text),
-            };
-        }
-        let mut reader = Reader::over(text);
-        let header = reader.heading(kind);
+        let mut reader = Reader::new(text);
+        let header = if text.len() > MOST_BYTES {
+            Err(Fault::new(Refusal::TextTooLong, 0))
+        } else {
+            reader.heading(kind)
+        };
         Trace {
             kind,
             header,
@@ -50,10 +46,8 @@ impl<'a> Trace<'a> {
         ensures after { course_of self.new ≡ rest (course_of self.old) }
         ensures header { self.new.header ≡ self.old.header }
     {
-        match self.header {
-            Ok(_) => self.next_step(),
-            Err(fault) => Err(fault),
-        }
+        let _ = self.header?;
+        self.next_step()
     }
 
     fn next_step(&mut self) -> Result<Option<PlacedStep>, Fault>
@@ -66,7 +60,9 @@ impl<'a> Trace<'a> {
         if self.reader.at_end() {
             return Ok(None);
         }
-        let step = at_line(self.reader.try_step(self.kind, self.steps), line)?;
+        let (kind, before) = (self.kind, self.steps);
+        let step = self.reader.try_line(|item| step_said(kind, before, item));
+        let step = at_line(step, line)?;
         self.steps += 1;
         Ok(Some(PlacedStep { line, step }))
     }

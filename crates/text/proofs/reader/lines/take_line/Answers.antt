@@ -1,20 +1,16 @@
-use Rattle.std.proofs.Common.{arith}
+use Rattle.std.proofs.Common.{sym, arith, ◌∙◌}
 use Rattle.std.proofs.lemmas.List.{take_rest}
 use Rattle.text.proofs.Cuts.{no_line, line-is, line-passed}
 use Rattle.text.proofs.reader.lines.take_line.Goals as goal
 
-pub returns-then-n-rest : goal.returns-then-n-rest
-returns-then-n-rest c = record {
-  line = no_line c.args.text.now _ c.args.at.now (take_rest c.args.text.now c.args.at.now.byte) _ c.find-n.ensures.value c.if-n-rest.true;
-  further = tt;
-}
+pub returns-in_err-n-clause-line : goal.returns-in_err-n-clause-line
+returns-in_err-n-clause-line c =
+    rw c.from_residual.ensures (no_line c.args.text.now _ c.args.at.now (take_rest c.args.text.now c.args.at.now.byte) (sym c.in_err-n.was ∙ c.line_end.ensures))
 
-pub returns : goal.returns
-returns c =
-    let text = c.args.text.now in
-    let at = c.args.at.now in
-    let rest = take_rest text at.byte in
-    record {
-      line = line-is text _ at rest _ c.find-n.ensures.value c.if-n-rest.false;
-      further = line-passed text _ at rest _ c.find-n.ensures.value c.if-n-rest.false _ c.past.ensures (omega arith) (omega arith);
-    }
+pub returns-clause-line : goal.returns-clause-line
+returns-clause-line c =
+    line-is c.args.text.now _ c.args.at.now (take_rest c.args.text.now c.args.at.now.byte) c.in_ok-n.n (sym c.in_ok-n.was ∙ c.line_end.ensures)
+
+pub returns-clause-further : goal.returns-clause-further
+returns-clause-further c =
+    line-passed c.args.text.now _ c.args.at.now (take_rest c.args.text.now c.args.at.now.byte) c.in_ok-n.n (sym c.in_ok-n.was ∙ c.line_end.ensures) _ c.past.ensures (omega arith) (omega arith)
