@@ -1,4 +1,4 @@
--- One step more of a course.
+-- A step is taken only where there is room for it.
 use Rattle.std.proofs.Common.{◌≡◌, ℕ, ◌<◌, true, false, cond, ltb, Some, None, Ok, Err, Option, Result, refl, arith}
 use Rattle.std.proofs.lemmas.Bool.{ltb-true}
 use Rattle.model.specs.declared.refusal.Refusal.{Refusal}
@@ -10,7 +10,6 @@ use Rattle.grammar.specs.Pieces.{Piece}
 use Rattle.grammar.specs.Steps.{room, step_in, step_said}
 use Rattle.text.specs.Faults.{at_line}
 
--- a step is accepted only where there is room for it
 pub room-left : (i : ℕ) (o : Option TraceStep) (s : TraceStep) → Ok s ≡ room i o → i < 2048
 room-left i None s e = let z : ◌≡◌ {A = ℕ} 0 1 = cc in absurd (omega arith)
 room-left i (Some t) s e =
