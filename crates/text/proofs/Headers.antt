@@ -1,8 +1,9 @@
 -- A header that is read has its numbers in range.
-use Rattle.std.proofs.Common.{◌≡◌, ℕ, ◌≤◌, Bool, true, false, cond, ◌&&◌, ltb, leb, List, [], ◌∷◌, length, Some, None, Ok, Err, codes, Option, Result, refl, ap, subst, arith}
-use Rattle.std.proofs.lemmas.Bool.{leb-true, cond_both}
+use Rattle.std.proofs.Common.{◌≡◌, ℕ, ◌≤◌, ltb, List, [], ◌∷◌, length, Some, None, Ok, Err, codes, Option, Result, refl, ap, subst, arith}
+use Rattle.std.proofs.lemmas.Bool.{cond_both}
+use Rattle.std.proofs.lemmas.Bool.Decides.{nat_tests}
 use Rattle.model.specs.declared.refusal.Refusal.{Refusal}
-use Rattle.model.specs.declared.refusal.Refusal.TheVariants.{SizeOutOfRange, TextTooLong}
+use Rattle.model.specs.declared.refusal.Refusal.TheVariants.{TextTooLong}
 use Rattle.grammar.specs.declared.kind.Kind.{Kind}
 use Rattle.grammar.specs.Pieces.{Piece}
 use Rattle.text.specs.declared.fault.Fault.{Fault}
@@ -18,20 +19,15 @@ use Rattle.text.specs.Telling.{Told, Left, left_from, answered, taking}
 -- what is taken for a value is a line that f makes that value of
 answered-by : {X : Type 0} (r : Result X Refusal) (t : Told) (ts : List Told) (e : ℕ) (x : X) → (answered r t ts e).0 ≡ Ok x → r ≡ Ok x
 answered-by (Ok y) t ts e x h = let same : y ≡ x = cc in ap Ok same
-answered-by (Err r) t ts e x h = let z : ◌≡◌ {A = ℕ} 0 1 = cc in absurd (omega arith)
+answered-by (Err r) t ts e x h = absurd cc
 
 taken-by : {X : Type 0} (f : Option Piece → Result X Refusal) (ts : List Told) (e : ℕ) (x : X) → (taking f ts e).0 ≡ Ok x → (o : Option Piece) × (f o ≡ Ok x)
-taken-by f [] e x h = let z : ◌≡◌ {A = ℕ} 0 1 = cc in absurd (omega arith)
+taken-by f [] e x h = absurd cc
 taken-by f (t ∷ ts) e x h = (t.says, answered-by (f t.says) t ts e x h)
 
-in-range : (low high m n : ℕ) (s t : Bool) → leb low m ≡ s → leb m high ≡ t → cond {A = Result ℕ Refusal} (s && t) (Ok m) (Err SizeOutOfRange) ≡ Ok n → (low ≤ n) × (n ≤ high)
-in-range low high m n true true p q h = let e : m ≡ n = cc in (omega (arith, leb-true), omega (arith, leb-true))
-in-range low high m n true false p q h = let z : ◌≡◌ {A = ℕ} 0 1 = cc in absurd (omega arith)
-in-range low high m n false t p q h = let z : ◌≡◌ {A = ℕ} 0 1 = cc in absurd (omega arith)
-
 ranged-in : (low high : ℕ) (o : Option ℕ) (n : ℕ) → ranged low high o ≡ Ok n → (low ≤ n) × (n ≤ high)
-ranged-in low high (Some m) n h = in-range low high m n (leb low m) (leb m high) refl refl h
-ranged-in low high None n h = let z : ◌≡◌ {A = ℕ} 0 1 = cc in absurd (omega arith)
+ranged-in low high (Some m) n h = grind (arith, nat_tests)
+ranged-in low high None n h = absurd cc
 
 number_in : (p : List ℕ) (low high : ℕ) (a : Left) (n : ℕ) → (number_line p low high a).0 ≡ Ok n → (low ≤ n) × (n ≤ high)
 number_in p low high a n h = ranged-in low high _ n (taken-by (number_said p low high) a.telling a.end n h).1

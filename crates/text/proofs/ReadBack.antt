@@ -1,10 +1,11 @@
 -- A printed trace is read back, whatever remarks stand between its lines.
-use Rattle.std.proofs.Common.{◌≡◌, ℕ, suc, ◌+◌, ◌≤◌, true, false, ◌&&◌, eqb, ltb, leb, List, [], ◌∷◌, ◌++◌, map, length, drop, Some, None, Ok, Err, codes, Option, Result, sym, refl, ap, ◌∙◌, subst, arith}
+use Rattle.std.proofs.Common.{◌≡◌, ℕ, suc, ◌+◌, ◌≤◌, true, false, eqb, ltb, List, [], ◌∷◌, ◌++◌, map, length, drop, Some, None, Ok, Err, codes, Option, Result, sym, refl, ap, ◌∙◌, subst, arith}
 use Rattle.std.specs.List.{AllByRecursion}
 use Rattle.std.proofs.lemmas.List.{length-drop, length-map}
-use Rattle.std.proofs.lemmas.Bool.{cond-true, cond-false, or_parts, and_from, le-leb, lt-ltb, le-ltb}
+use Rattle.std.proofs.lemmas.Bool.Decides.{nat_tests}
+use Rattle.std.proofs.lemmas.Bool.{cond-true, cond-false, or_parts, lt-ltb, le-ltb}
 use Rattle.model.specs.declared.refusal.Refusal.{Refusal}
-use Rattle.model.specs.declared.refusal.Refusal.TheVariants.{SizeOutOfRange, TextTooLong}
+use Rattle.model.specs.declared.refusal.Refusal.TheVariants.{TextTooLong}
 use Rattle.grammar.specs.declared.kind.Kind.{Kind}
 use Rattle.grammar.specs.declared.kind.Kind.TheVariants.{Run, Log}
 use Rattle.grammar.specs.declared.trace_step.TraceStep.{TraceStep}
@@ -87,7 +88,7 @@ kind-said : (k : Kind) → kind_said k (piece (kind_printed k)) ≡ Ok tt
 kind-said k = ap (wanted k) (kind-back k) ∙ wanted-back k
 
 ranged-back : (low high n : ℕ) → low ≤ n → n ≤ high → ranged low high (Some n) ≡ Ok n
-ranged-back low high n l h = cond-true (leb low n && leb n high) (Ok n) (Err SizeOutOfRange) (and_from (leb low n) (leb n high) (le-leb low n l) (le-leb n high h))
+ranged-back low high n l h = grind (arith, nat_tests)
 
 number-back : (p : List ℕ) (low high x n : ℕ) (ns : List ℕ) (ls : List (List ℕ)) (e : ℕ) → named p ≡ true → (low ≤ x) × (x ≤ high) → high ≤ 4294967295 → number_line p low high (record { telling = told_at (n ∷ ns) (field_line p x ∷ ls); end = e }) ≡ (Ok x, record { telling = told_at ns ls; end = e })
 number-back p low high x n ns ls e h within w =

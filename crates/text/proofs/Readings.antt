@@ -20,8 +20,8 @@ read_by (Ok h) c t e = by c.fault e
   where
     by : (f : Option Fault) → ended h c.steps f ≡ Ok t → (◌≡◌ {A = Result Header Fault} (Ok h) (Ok t.header)) × (t.steps ≡ c.steps)
     by None e = let is : record { header = h; steps = c.steps } ≡ t = cc in (ap (λ x. Ok x.header) is, ap (λ x. x.steps) (sym is))
-    by (Some f) e = absurd (let z : ◌≡◌ {A = ℕ} 0 1 = cc in omega arith)
-read_by (Err f) c t e = absurd (let z : ◌≡◌ {A = ℕ} 0 1 = cc in omega arith)
+    by (Some f) e = absurd cc
+read_by (Err f) c t e = absurd cc
 
 few_on : (k : Kind) (i : ℕ) (ts : List Told) → i ≤ 2048 → i + length (course k i ts).steps ≤ 2048
 few_on k i [] h = omega arith
