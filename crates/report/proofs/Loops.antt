@@ -1,15 +1,13 @@
 -- One turn of each loop over steps and answers.
-use Rattle.std.proofs.Common.{◌≡◌, ℕ, ◌+◌, ◌<◌, true, false, List, [], ◌∷◌, ◌++◌, length, get_or, drop, Some, None, sym, refl, ap, ◌∙◌, arith}
+use Rattle.std.proofs.Common.{◌≡◌, ℕ, ◌+◌, ◌<◌, true, false, List, [], ◌∷◌, ◌++◌, length, get_or, drop, Some, sym, refl, ap, ◌∙◌}
 use Rattle.std.proofs.lemmas.List.{append_assoc, at_drop_more}
 use Rattle.std.proofs.lemmas.Bool.{cond-true, cond-false}
-use Rattle.std.specs.List.{slice_get}
 use Rattle.model.specs.declared.answer.Answer.{Answer}
 use Rattle.model.specs.declared.event.Event.{Event}
 use Rattle.model.specs.declared.step.Step.{Step}
 use Rattle.text.specs.Printing.{text_of}
 use Rattle.rules.specs.Logs.{event_in}
 use Rattle.report.specs.Judged.{noted, read_wrongly, first_wrong}
-use Rattle.report.specs.Output.{answer_line, answer_lines}
 
 -- ── judging ──
 
@@ -29,32 +27,7 @@ module _ (boards : ℕ) (words : List ℕ) (n : ℕ) (h : List Event) (xs : List
 
 -- ── printing ──
 
--- one line more, and the lines that are left
-pub line-more : (out : List ℕ) (n : ℕ) (given : List Answer) (i : ℕ) (a : Answer) → i < length given
-    → (out ++ (answer_line n (get_or given i a) ++ 10 ∷ [])) ++ text_of (answer_lines (n + 1) (drop (i + 1) given)) ≡ out ++ text_of (answer_lines n (drop i given))
-line-more out n given i a p =
-    joined (answer_line n (get_or given i a)) (text_of (answer_lines (n + 1) (drop (i + 1) given)))
-    ∙ sym (at_drop_more (λ ys. out ++ text_of (answer_lines n ys)) given i a p)
-  where
-    joined : (l more : List ℕ) → (out ++ (l ++ 10 ∷ [])) ++ more ≡ out ++ (l ++ 10 ∷ more)
-    joined l more = simp append_assoc
-
 -- a line behind others
-pub line-behind : (ls : List (List ℕ)) (l : List ℕ) → text_of (ls ++ l ∷ []) ≡ text_of ls ++ (l ++ 10 ∷ [])
-line-behind [] l = refl
-line-behind (k ∷ ls) l = ap (λ t. k ++ 10 ∷ t) (line-behind ls l) ∙ sym (append_assoc k (10 ∷ text_of ls) (l ++ 10 ∷ []))
-
--- ── reading ──
-
--- one step more, and those that are still to come
-pub step-more : (items xs ys : List Step) (x : Step) → Some x ≡ slice_get xs 0 → ys ≡ drop 1 xs → (items ++ x ∷ []) ++ ys ≡ items ++ xs
-step-more items (y ∷ xs) ys x e d = let same : x ≡ y = cc in rw (d, same) (append_assoc items (y ∷ []) xs)
-step-more items [] ys x e d = let z : ◌≡◌ {A = ℕ} 0 1 = cc in absurd (omega arith)
-
-pub fewer-left : (xs ys : List Step) (x : Step) → Some x ≡ slice_get xs 0 → ys ≡ drop 1 xs → length ys < length xs
-fewer-left (y ∷ xs) ys x e d = omega (arith, ap length d)
-fewer-left [] ys x e d = let z : ◌≡◌ {A = ℕ} 0 1 = cc in absurd (omega arith)
-
-pub none_left : (xs : List Step) → None ≡ slice_get xs 0 → xs ≡ []
-none_left [] e = refl
-none_left (x ∷ xs) e = let z : ◌≡◌ {A = ℕ} 0 1 = cc in absurd (omega arith)
+pub line_behind : (ls : List (List ℕ)) (l : List ℕ) → text_of (ls ++ l ∷ []) ≡ text_of ls ++ (l ++ 10 ∷ [])
+line_behind [] l = refl
+line_behind (k ∷ ls) l = ap (λ t. k ++ 10 ∷ t) (line_behind ls l) ∙ sym (append_assoc k (10 ∷ text_of ls) (l ++ 10 ∷ []))

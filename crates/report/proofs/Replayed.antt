@@ -1,5 +1,5 @@
 -- What the program's own bench answers: over a first-come path, and over any home with these words.
-use Rattle.std.proofs.Common.{◌≡◌, ℕ, ◌≤◌, List, [], ◌∷◌, ◌++◌, length, take, drop, replicate, Ok, Err, Option, Result, sym, refl, ap, ◌∙◌, subst, arith, length-drop}
+use Rattle.std.proofs.Common.{◌≡◌, ℕ, ◌≤◌, List, [], length, take, drop, replicate, Ok, Err, Result, sym, refl, ap, ◌∙◌, subst, arith, length-drop}
 use Rattle.std.proofs.lemmas.List.{drop_all, take_all}
 use Rattle.model.specs.declared.answer.Answer.{Answer}
 use Rattle.model.specs.declared.refusal.Refusal.{Refusal}
@@ -20,8 +20,7 @@ use Rattle.text.specs.Reading.{Trace, reading, header_of}
 use Rattle.text.specs.declared.fault.Fault.{Fault}
 use Rattle.text.specs.declared.header.Header.{Header}
 use Rattle.text.proofs.Readings.{read-in-range}
-use Rattle.report.specs.Judged.{first_wrong}
-use Rattle.report.specs.Output.{answer_lines, legal_line, answers_to, wrong_in, run_lines}
+use Rattle.report.specs.Output.{answers_to}
 use Rattle.report.specs.Plain.{fresh, answers}
 use Rattle.report.proofs.Always.{length-answers, header-opens}
 use Rattle.report.proofs.Courses.{same-answers}
@@ -60,16 +59,10 @@ module _ (h : Header) (fits : InRange h) (p q : FirstCome) (xs : List Step) (bef
 pub enough : (h : Header) (xs : List Step) (given : List Answer) → given ≡ answers_to h xs → length xs ≤ length given
 enough h xs given is = omega (arith, ap length is, length-answers (fresh h.boards h.entries (starting_words h)) xs)
 
-pub run-lines : (h : Header) → InRange h → (xs : List Step) (given : List Answer) (words : List ℕ) (wrong : Option ℕ) → given ≡ answers_to h xs
-    → words ≡ replicate (size_for h.cells) h.start → wrong ≡ first_wrong h.boards words 1 [] xs given → answer_lines 1 given ++ legal_line wrong ∷ [] ≡ run_lines h xs
-run-lines h fits xs given words wrong is start found =
-    let judged : wrong ≡ wrong_in h xs (answers_to h xs) = found ∙ ap (λ ws. first_wrong h.boards ws 1 [] xs given) (start ∙ pair-words h fits) ∙ ap (λ ys. first_wrong h.boards (starting_words h) 1 [] xs ys) is in
-    ap (λ ys. answer_lines 1 ys ++ legal_line wrong ∷ []) is ∙ ap (λ o. answer_lines 1 (answers_to h xs) ++ legal_line o ∷ []) judged
-
 -- a text whose header is known
 pub header-known : (text : List ℕ) (h : Header) → header_of (reading Run text) ≡ Ok h → InRange h
 header-known text h e = by (reading Run text) refl e
   where
     by : (r : Result Trace Fault) → reading Run text ≡ r → header_of r ≡ Ok h → InRange h
     by (Ok t) is e = let same : t.header ≡ h = cc in subst InRange same (read-in-range Run text t is)
-    by (Err f) is e = let z : ◌≡◌ {A = ℕ} 0 1 = cc in absurd (omega arith)
+    by (Err f) is e = absurd cc

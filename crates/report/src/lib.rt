@@ -3,9 +3,9 @@
 // of a cache.
 #![tactic(auto)]
 
-mod answers;
 mod judged;
 pub mod line;
 mod lines;
+mod run;
 mod steps;
 pub mod whole;

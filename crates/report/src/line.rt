@@ -22,23 +22,17 @@ impl fmt::Display for Line {
         match *self {
             Line::Answered { step, answer } => match answer {
                 Answer::Word(word) => write!(f, "r={step}.{word}"),
-                Answer::Landed(carry) => {
-                    let Carry { board, cell, word } = carry;
+                Answer::Landed(Carry { board, cell, word }) => {
                     write!(f, "d={step}.{board}.{cell}.{word}")
                 }
                 Answer::NothingWaits => write!(f, "d={step}"),
                 Answer::Done => write!(f, "ok={step}"),
-                Answer::Refused(refusal) => {
-                    let number = refusal.number();
-                    write!(f, "no={step}.{number}")
-                }
+                Answer::Refused(refusal) => write!(f, "no={step}.{}", refusal.number()),
             },
             Line::FirstWrong(None) => write!(f, "legal=all"),
             Line::FirstWrong(Some(step)) => write!(f, "legal={step}"),
-            Line::Faulty(fault) => {
-                let number = fault.refusal.number();
-                let line = fault.line;
-                write!(f, "fault={number}.{line}")
+            Line::Faulty(Fault { refusal, line, .. }) => {
+                write!(f, "fault={}.{line}", refusal.number())
             }
         }
     }

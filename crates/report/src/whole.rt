@@ -1,17 +1,12 @@
 ghost use Rattle.std.specs.Prelude.{◌≡◌, IfOk, Ok, string_bytes};
-ghost use Rattle.grammar.specs.declared.kind.Kind.TheVariants.{Run};
-ghost use Rattle.text.specs.Printing.{InRange, text_of};
+ghost use Rattle.grammar.specs.declared.kind.Kind.TheVariants.{Run as run};
 ghost use Rattle.text.specs.Reading.{reading, header_of};
-ghost use Rattle.report.specs.Output.{answers_to, run_lines, output_of, AlwaysLegal};
+ghost use Rattle.report.specs.Output.{output_of, AlwaysLegal};
 
-use crate::answers::run;
-use crate::judged::first_wrong;
-use crate::lines::{fault_text, run_text};
+use crate::lines::fault_text;
+use crate::run::Run;
 use crate::steps::steps_of;
 use grammar::kind::Kind;
-use home::pair_home::PairHome;
-use model::answer::Answer;
-use model::step::Step;
 use std::alloc::{AllocError, Global};
 use text::check::check;
 use text::header::Header;
@@ -21,35 +16,17 @@ fn always_legal()
     ensures { AlwaysLegal }
 {}
 
-// What the steps answer, on a bench of the header's size.
-fn answered(heap: Global, header: Header, steps: &[Step]) -> Result<Vec<Answer>, AllocError>
-    requires { InRange header }
-    ensures { IfOk result (λ v. v.items ≡ answers_to header steps.now) }
-{
-    let mut answers = vec![in heap; Answer::Done; steps.len()]?;
-    run(header, steps, answers.as_mut_slice());
-    Ok(answers)
-}
-
-// The text for the steps of a run with that header: they are run, and their reads are judged.
-fn report_steps(heap: Global, header: Header, steps: &[Step]) -> Result<String, AllocError>
-    requires { InRange header }
-    ensures { IfOk result (λ t. string_bytes t ≡ text_of (run_lines header steps.now)) }
-{
-    let answers = answered(heap, header, steps)?;
-    let home = PairHome::new(header.cells, header.start);
-    let given = answers.as_slice();
-    let wrong = first_wrong(header.boards, &home, steps, given);
-    run_text(heap, given, wrong)
-}
-
 // The text for a trace without a fault, whose header is known.
 fn report_run(heap: Global, header: Header, text: &[u8]) -> Result<String, AllocError>
-    requires { header_of (reading Run text.now) ≡ Ok header }
+    requires { header_of (reading run text.now) ≡ Ok header }
     ensures { IfOk result (λ t. string_bytes t ≡ output_of text.now) }
 {
     let steps = steps_of(heap, text)?;
-    report_steps(heap, header, steps.as_slice())
+    let run = Run {
+        header,
+        steps: steps.as_slice(),
+    };
+    run.text(heap)
 }
 
 // The whole text that is printed for a trace, or that there is no memory for it.
