@@ -24,13 +24,13 @@ fn memory(header: Header) -> HoldingBuffer<PairHome>
 
 // The steps of a run without a fault, and its header.
 #[derive(Clone, Copy)]
-pub(crate) struct Run<'a> {
+pub(crate) struct BenchRun<'a> {
     pub(crate) header: Header,
     pub(crate) steps: &'a [Step],
     ghost in_range: { InRange header },
 }
 
-impl Run<'_> {
+impl BenchRun<'_> {
     // What the steps answer, on a bench of the header's size.
     fn answers(&self, heap: Global) -> Result<Vec<Answer>, AllocError>
         ensures { IfOk result (λ v. v.items ≡ answers_to self.now.header self.now.steps.now) }

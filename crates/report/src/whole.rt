@@ -1,10 +1,10 @@
 ghost use Rattle.std.specs.Prelude.{◌≡◌, IfOk, Ok, string_bytes};
-ghost use Rattle.grammar.specs.declared.kind.Kind.TheVariants.{Run as run};
+ghost use Rattle.grammar.specs.declared.kind.Kind.TheVariants.{Run};
 ghost use Rattle.text.specs.Reading.{reading, header_of};
 ghost use Rattle.report.specs.Output.{output_of, AlwaysLegal};
 
 use crate::lines::fault_text;
-use crate::run::Run;
+use crate::run::BenchRun;
 use crate::steps::steps_of;
 use grammar::kind::Kind;
 use std::alloc::{AllocError, Global};
@@ -18,11 +18,11 @@ fn always_legal()
 
 // The text for a trace without a fault, whose header is known.
 fn report_run(heap: Global, header: Header, text: &[u8]) -> Result<String, AllocError>
-    requires { header_of (reading run text.now) ≡ Ok header }
+    requires { header_of (reading Run text.now) ≡ Ok header }
     ensures { IfOk result (λ t. string_bytes t ≡ output_of text.now) }
 {
     let steps = steps_of(heap, text)?;
-    let run = Run {
+    let run = BenchRun {
         header,
         steps: steps.as_slice(),
     };

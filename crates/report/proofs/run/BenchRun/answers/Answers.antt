@@ -8,7 +8,7 @@ use Rattle.carries.specs.Held.{lines_in}
 use Rattle.path.specs.declared.first_come.FirstCome.{FirstCome}
 use Rattle.engine.specs.Benches.{state_of}
 use Rattle.report.proofs.Replayed.{replayed}
-use Rattle.report.proofs.run.Run.answers.Goals as goal
+use Rattle.report.proofs.run.BenchRun.answers.Goals as goal
 
 -- the vector holds what its slice was left with
 pub returns : goal.returns

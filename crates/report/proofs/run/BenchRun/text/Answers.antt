@@ -1,6 +1,6 @@
 use Rattle.std.proofs.Common.{◌∙◌}
 use Rattle.report.proofs.Replayed.{enough}
-use Rattle.report.proofs.run.Run.text.Goals as goal
+use Rattle.report.proofs.run.BenchRun.text.Goals as goal
 
 pub first_wrong-wrong-requires : goal.first_wrong-wrong-requires
 first_wrong-wrong-requires c =
