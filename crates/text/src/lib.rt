@@ -5,6 +5,7 @@
 pub mod check;
 pub mod fault;
 pub mod header;
+pub mod input;
 pub mod placed_step;
 mod position;
 pub mod reader;
