@@ -4,7 +4,7 @@ ghost use Rattle.grammar.specs.Pieces.{shown, piece};
 
 // A line by its form. Each case borrows its part of the bytes: what follows the #, what follows the letter and its
 // equals sign, or the whole line.
-#[derive(Clone, Copy, Debug)]
+#[derive(Clone, Copy, PartialEq, Eq, Debug)]
 pub enum Item<'a> {
     Remark(&'a [u8]),
     Step { letter: u8, rest: &'a [u8] },

@@ -1,7 +1,10 @@
 use super::first_fault::fault_in;
 use grammar::kind::Kind;
 use std::alloc::Global;
+use std::io;
+use std::io::Read;
 use std::test::Fail;
+use text::input::read_text;
 
 const LOG: &[u8] = b"trace=log\nboards=2\ncells=1\nentries=1\nstart=0\n";
 
@@ -35,9 +38,7 @@ fn a_trace_has_2048_steps_at_most(rt: HostRuntime) -> Result<(), Fail> {
 // A log made up to its length by one remark, which ends it.
 fn padded(heap: Global, length: usize) -> Result<Vec<u8>, Fail> {
     let mut text = LOG.to_vec(heap)?;
-    for _ in LOG.len() + 1..length {
-        text.push(b'#')?;
-    }
+    text.resize(length.saturating_sub(1), b'#')?;
     text.push(b'\n')?;
     Ok(text)
 }
@@ -52,5 +53,36 @@ fn a_text_has_60000_bytes_at_most(rt: HostRuntime) -> Result<(), Fail> {
     assert_eq!(rt; over.len(), 60_001);
     assert_eq!(rt; fault_in(Kind::Log, over.as_slice()), (6, 0));
     assert_eq!(rt; fault_in(Kind::Run, over.as_slice()), (6, 0));
+    Ok(())
+}
+
+// Of a longer text no more is read than shows that it is too long.
+#[test]
+fn a_text_is_read_up_to_60001_bytes(rt: HostRuntime) -> Result<(), Fail> {
+    let log = read_text(rt.alloc(), LOG)?;
+    assert_eq!(rt; log.as_slice(), LOG);
+    let over = padded(rt.alloc(), 60_003)?;
+    let read = read_text(rt.alloc(), over.as_slice())?;
+    assert_eq!(rt; Some(read.as_slice()), over.get(..60_001));
+    Ok(())
+}
+
+// A reader that fails after its first bytes.
+#[derive(Drop)]
+struct Failing;
+
+impl Read for Failing {
+    fn read(&mut self, _buf: &mut [u8]) -> io::Result<usize> {
+        Err(io::Error::from(io::ErrorKind::ConnectionReset))
+    }
+}
+
+#[test]
+fn a_failed_read_is_no_text(rt: HostRuntime) -> Result<(), Fail> {
+    let error = read_text(rt.alloc(), LOG.chain(Failing)).err();
+    assert_eq!(rt;
+        error.map(|e| e.kind()),
+        Some(io::ErrorKind::ConnectionReset)
+    );
     Ok(())
 }
