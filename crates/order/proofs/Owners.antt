@@ -1,6 +1,7 @@
 -- Who owns a cell, as one more event comes; so the computed owner is the owner, and in a history that keeps to ownership all
 -- releases of a cell are in one chain.
 use Rattle.std.proofs.Common.{◌≡◌, ℕ, ◌<◌, ◌≤◌, true, false, eqb, ◌⊎◌, ◌↔◌, List, [], ◌∷◌, Some, None, Option, sym, refl, ap, ◌∙◌, subst, inl, inr, arith}
+use Rattle.std.specs.List.{fold}
 use Rattle.std.proofs.lemmas.Bool.{cases_Bool, eqb-true, eqb-false, cond-true, cond-false, eq-eqb, ne_eqb}
 use Rattle.model.specs.declared.event.Action.{Action}
 use Rattle.model.specs.declared.event.Event.{Event}
@@ -71,6 +72,11 @@ module _ (h : List Event) (g : Event) where
             released r = o.kept (next h) g l.below (omega (arith, next_more h g)) (at_new h g) r
 
 -- ── the computed owner ──
+
+-- what a chain over the events computes
+pub owner_from-fold : (c : ℕ) (h : List Event) (o : Option ℕ) → owner_from c h o ≡ fold (λ p e. owner_after c e p) o h
+owner_from-fold c [] o = refl
+owner_from-fold c (e ∷ h) o = owner_from-fold c h (owner_after c e o)
 
 pub owner-more : (c : ℕ) (h : List Event) (g : Event) (o : Option ℕ) → owner_from c (more h g) o ≡ owner_after c g (owner_from c h o)
 owner-more c [] g o = refl
