@@ -1,6 +1,6 @@
 -- What a board knows of a cell's writes is settled by its latest event there.
-use Rattle.std.proofs.Common.{◌≡◌, ℕ, zero, suc, ◌+◌, ◌<◌, ◌≤◌, Bool, true, false, cond, eqb, ltb, ◌⊎◌, List, [], ◌∷◌, ◌++◌, length, get_or, take, drop, replicate, Some, None, Option, sym, refl, ap, ◌∙◌, inl, inr, add-one, arith}
-use Rattle.std.proofs.lemmas.List.{get_or-set_other, take-append-drop, length-take}
+use Rattle.std.proofs.Common.{◌≡◌, ℕ, zero, suc, ◌+◌, ◌<◌, Bool, true, false, cond, eqb, ltb, ◌⊎◌, List, [], ◌∷◌, ◌++◌, length, get_or, take, drop, replicate, Some, None, Option, sym, refl, ap, ◌∙◌, inl, inr, add-one, arith}
+use Rattle.std.proofs.lemmas.List.{get_or-set_other, take-append-drop}
 use Rattle.std.proofs.lemmas.Bool.{cases_Bool, cond-true, cond-false, and_parts, and_from, eq-eqb}
 use Rattle.model.specs.declared.event.Action.{Action}
 use Rattle.model.specs.declared.event.Event.{Event}
@@ -101,21 +101,18 @@ unsettled c b h none = quiet c 1 b h initially none ∙ alike 8 b
 
 -- ── boards ──
 
-pub boards-take : (n : ℕ) (h : List Event) → on_boards h ≡ true → on_boards (take n h) ≡ true
-boards-take zero h f = refl
-boards-take (suc n) [] f = refl
-boards-take (suc n) (e ∷ h) f =
+pub boards_take : (n : ℕ) (h : List Event) → on_boards h ≡ true → on_boards (take n h) ≡ true
+boards_take zero h f = refl
+boards_take (suc n) [] f = refl
+boards_take (suc n) (e ∷ h) f =
     let r = and_parts (ltb e.board 8) (on_boards h) f in
-    and_from (ltb e.board 8) (on_boards (take n h)) r.0 (boards-take n h r.1)
+    and_from (ltb e.board 8) (on_boards (take n h)) r.0 (boards_take n h r.1)
 
 -- the board's latest event on the cell settles what the board knows, and if there is none it knows nothing
-pub settled : (c b : ℕ) (h : List Event) (o : Option ℕ) → o ≡ last_place (of_board b c) h → on_boards h ≡ true → length h ≤ 2048 → Settled h b c o
-settled c b h None e f few = unsettled c b h (sym e)
-settled c b h (Some i) e f few =
-    let l = last_within (of_board b c) h i (sym e) in
+pub settled : (c b : ℕ) (h : List Event) (o : Option ℕ) → o ≡ last_place (of_board b c) h → Settled h b c o
+settled c b h None e = unsettled c b h (sym e)
+settled c b h (Some i) e =
     record {
-      within = l;
+      within = last_within (of_board b c) h i (sym e);
       same = settled-by c b h i (sym e) ∙ ap (λ k. view_of (views c (take k h)) b) (sym (add-one i));
-      boards = λ n. boards-take n h f;
-      few = λ n. omega (arith, length-take n h);
     }

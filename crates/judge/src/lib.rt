@@ -1,6 +1,6 @@
 // The judge: notes the events of a bench, and says which writes a board may read and which words a read may answer.
 #![tactic(auto)]
 
+mod history;
 pub mod judge;
 mod views;
-mod writes;

@@ -7,8 +7,7 @@ ghost use Rattle.judge.specs.Examples.{Examples};
 ghost use Rattle.judge.specs.Judging.{history_of, room_of, standing, allowed, admitted, note_answer, extended, placed, readable_answer, legal_answer};
 
 use super::{Judge, MOST_EVENTS};
-use crate::views::overwritten;
-use crate::writes::{highest_legal, writer_of};
+use crate::history::History;
 use home::source::Source;
 use model::event::{Action, Event};
 use model::refusal::Refusal;
@@ -19,7 +18,7 @@ fn standing_on(boards: u32, cells: u32, board: u32, cell: u32) -> Result<(), Ref
     ensures answer { result ≡ standing boards cells board cell }
     ensures small { OnOk result ((board < 8) × (cell < cells)) }
 {
-    if boards == 0 || boards > 8 || cells == 0 || cells > 64 {
+    if !(1..=8).contains(&boards) || !(1..=64).contains(&cells) {
         return Err(Refusal::SizeOutOfRange);
     }
     if board >= boards {
@@ -49,10 +48,7 @@ fn allow(owner: Option<u32>, board: u32, action: Action) -> Result<(), Refusal>
 fn starting_word<S: Source>(source: &S, cell: u32) -> u32
     ensures { result ≡ slice_index (S.Source.words source.now) cell }
 {
-    match source.read(cell) {
-        Ok(word) => word,
-        Err(_) => 0,
-    }
+    source.read(cell).unwrap_or(0)
 }
 
 impl<'a> Judge<'a> {
@@ -66,11 +62,9 @@ impl<'a> Judge<'a> {
     }
 
     // The events noted so far, with what holds of every history.
-    fn history(&self) -> &[Event]
-        ensures value { result.now ≡ history_of self.now }
-        ensures boards { on_boards result.now ≡ true }
-        ensures known { on_boards (history_of self.now) ≡ true }
-        ensures few { length result.now ≤ 2048 }
+    fn history(&self) -> History<'_>
+        ensures value { result.events.now ≡ history_of self.now }
+        ensures boards { on_boards (history_of self.now) ≡ true }
         ensures owner { OwnerDecided }
         ensures discipline { DisciplineDecided }
         ensures laws { LawsOfOrder }
@@ -78,7 +72,9 @@ impl<'a> Judge<'a> {
         ensures legal { LegalDecided }
         ensures examples { Examples }
     {
-        &self.list[0..self.noted]
+        History {
+            events: &self.list[..self.noted],
+        }
     }
 
     // How many events can be noted in all.
@@ -113,8 +109,8 @@ impl<'a> Judge<'a> {
     {
         let history = self.history();
         standing_on(boards, cells, event.board, event.cell)?;
-        allow(owner(history, event.cell), event.board, event.action)?;
-        if history.len() >= self.room() {
+        allow(owner(history.events, event.cell), event.board, event.action)?;
+        if history.events.len() >= self.room() {
             return Err(Refusal::EventsFull);
         }
         Ok(())
@@ -149,11 +145,8 @@ impl<'a> Judge<'a> {
     {
         let history = self.history();
         standing_on(boards, source.size(), board, cell)?;
-        let Some(writer) = writer_of(history, cell, number) else {
-            return Err(Refusal::NotAWrite);
-        };
-        let over = overwritten(history, board, cell);
-        Ok(over[writer] <= number)
+        let writer = history.writer_of(cell, number).ok_or(Refusal::NotAWrite)?;
+        Ok(history.overwritten(board, cell)[writer] <= number)
     }
 
     // The highest-numbered write of the word that the board may read on the cell, if there is one.
@@ -172,7 +165,7 @@ impl<'a> Judge<'a> {
     {
         let history = self.history();
         standing_on(boards, source.size(), board, cell)?;
-        let over = overwritten(history, board, cell);
-        Ok(highest_legal(history, over, starting_word(source, cell), cell, word))
+        let over = history.overwritten(board, cell);
+        Ok(history.highest_legal(&over, starting_word(source, cell), cell, word))
     }
 }
