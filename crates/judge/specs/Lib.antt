@@ -1,4 +1,5 @@
 pub mod Discipline
 pub mod Examples
+pub mod Hearing
 pub mod Judging
 pub mod Settling
