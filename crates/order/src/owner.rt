@@ -8,10 +8,14 @@ use model::event::{Action, Event};
 fn owner_after(owner: Option<u32>, event: Event, cell: u32) -> Option<u32>
     ensures { result ≡ owner_after cell event owner }
 {
+    // The cell first: most events are on another one.
+    if event.cell != cell {
+        return owner;
+    }
     match event.action {
-        Action::Acquire if event.cell == cell => Some(event.board),
-        Action::Release if event.cell == cell => None,
-        _ => owner,
+        Action::Write(_) => owner,
+        Action::Acquire => Some(event.board),
+        Action::Release => None,
     }
 }
 
