@@ -11,7 +11,7 @@ use Rattle.std.proofs.lemmas.List.FromFn.{length-map-range_with_len, get_or-map-
 use Rattle.std.proofs.lemmas.Bool.{cases_lt, eqb-true}
 use Rattle.model.specs.declared.carry.Carry.{Carry}
 use Rattle.model.specs.declared.refusal.Refusal.{Refusal}
-use Rattle.carries.specs.Lines.{line, of_lane, lane, oldest, without, joined, checked, start_at, if_started, started, Landed, Proper}
+use Rattle.carries.specs.Lines.{line, of_lane, lane, oldest, newest, newest_at, without, joined, checked, start_at, if_started, started, Landed, Proper}
 use Rattle.carries.specs.Tables.{line_of, lines_of, located, Short, without_first}
 
 pub lines-length : (xs : List Carry) → length (lines_of xs) ≡ 8
@@ -21,6 +21,8 @@ lines-length xs = length-map-range_with_len (λ b. line_of b xs) 0 8
 pub line-of : (xs : List Carry) (b : ℕ) → b < 8 → line (lines_of xs) b ≡ line_of b xs
 unfolding lines_of
 line-of xs b h = get_or-map-range_with_len (λ b. line_of b xs) 0 8 b b [] h (omega arith)
+
+pub ruleset lines = (line-of)
 
 pub line-past : (xs : List Carry) (b : ℕ) → 8 ≤ b → line (lines_of xs) b ≡ []
 line-past xs b h = get_or_past (lines_of xs) b [] (omega (arith, lines-length xs))
@@ -236,3 +238,8 @@ module _ (b : ℕ) where
         front.1,
         landed xs i x at.0 read first l,
       )
+
+pub newest_in : (b c : ℕ) (xs : List Carry) → checked b c (Ok (tt {0})) ≡ Ok tt → newest_at (lines_of xs) b c ≡ Ok (newest (filter (of_lane b c) xs))
+newest_in b c xs e =
+    let on = checks b c tt e in
+    checked-on b c (Ok (newest (lane (lines_of xs) b c))) on.0 on.1 ∙ ap (λ l. Ok (newest l)) (lane_of xs b c on.0)

@@ -7,6 +7,6 @@ all-occur : ℕ → Bool
 all-occur zero = true
 all-occur (suc n) = occurs n fixed_turns && all-occur n
 
-pub every-fixed : EveryBoard fixed_turns
+pub every_fixed : EveryBoard fixed_turns
 unfolding all-occur
-every-fixed = (Decides-below_and (λ b. occurs b fixed_turns) (λ b. occurs b fixed_turns ≡ true) all-occur (λ b. (λ e. e, λ e. e)) refl (λ _. refl) 8).0 refl
+every_fixed = (Decides-below_and (λ b. occurs b fixed_turns) (λ b. occurs b fixed_turns ≡ true) all-occur (λ b. (λ e. e, λ e. e)) refl (λ _. refl) 8).0 refl

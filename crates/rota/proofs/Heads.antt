@@ -13,7 +13,8 @@ use Rattle.path.specs.declared.order.Order.{Order}
 use Rattle.path.specs.declared.order.Order.TheVariants.{Start, Land}
 use Rattle.carries.proofs.ByBoard.{line-cons-same, line-cons-other}
 use Rattle.rota.specs.Bound.{landings, LandsWithin}
-use Rattle.rota.specs.Turns.{EveryBoard, waits, can_land, turn_to_land, turn_after, landing_at}
+use Rattle.rota.specs.Turns.{fixed_turns, EveryBoard, waits, can_land, turn_to_land, turn_after, landing_at}
+use Rattle.rota.proofs.Fixed.{every_fixed}
 use Rattle.rota.proofs.Rounds.{passed, passed-most, passed-same, after_turn, FirstRound, first_round, turn-of}
 
 -- eight lines, each with carries of its own board only
@@ -148,3 +149,6 @@ lands_within ts n every ls t b x xs os proper t-in is enough =
     (cases_lt b 8) in
     let at = turn-of b ts (every b below) in
     reaches ts n b x at.0 at.1 at.2 os ls t (length ts) xs own t-in is (passed-most (length ts) t at.0 t-in at.1) enough
+
+pub fixed_within : LandsWithin 16 fixed_turns 4
+fixed_within = lands_within fixed_turns 4 every_fixed

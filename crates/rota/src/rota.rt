@@ -38,6 +38,7 @@ impl Rota {
 
     // How many landings a carry at the head of its line waits for at most, whatever is started meanwhile: a round of
     // turns. With other turns it would be their number, if only every board has one.
+    #[tactic(auto, using(crate::proofs::Heads::lands_within, crate::proofs::Heads::fixed_within))]
     pub fn longest_wait() -> u32
         ensures count { result ≡ 16 }
         ensures bound { LandsWithin result fixed_turns 4 }

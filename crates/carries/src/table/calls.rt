@@ -56,6 +56,7 @@ impl<const LENGTH: u32> Table<LENGTH> {
     }
 
     // How many carries wait in the line of a board.
+    #[tactic(auto, using(crate::proofs::ByBoard::lines))]
     fn waiting(&self, board: u32) -> u32
         requires { board ≤ 7 }
         ensures { result ≡ length (line (lines_in self.now) board) }
@@ -79,6 +80,7 @@ impl<const LENGTH: u32> Table<LENGTH> {
     }
 
     // The newest carry of a lane, which a board reads back in the memory's place.
+    #[tactic(auto, using(crate::proofs::ByBoard::newest_in))]
     pub fn newest(&self, board: u32, cell: u32) -> Result<Option<Carry>, Refusal>
         ensures { result ≡ newest_at (lines_in self.now) board cell }
     {
