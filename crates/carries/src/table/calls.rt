@@ -10,7 +10,7 @@ use model::carry::Carry;
 use model::refusal::Refusal;
 use model::search;
 
-// Whether there are a board and a cell of these numbers.
+// Refuses a board or a cell that does not exist.
 fn check(board: u32, cell: u32) -> Result<(), Refusal>
     ensures { result ≡ checked board cell (Ok tt) }
 {
@@ -64,7 +64,7 @@ impl<const LENGTH: u32> Table<LENGTH> {
         count_of(&self.carries, board)
     }
 
-    // Starts a carry.
+    // Starts a carry, if its board and its cell exist and its line has room.
     pub fn start(&mut self, carry: Carry) -> Result<(), Refusal>
         ensures answer { result ≡ start_at (min LENGTH 8) (lines_in self.old) carry }
         ensures after { lines_in self.new ≡ started (min LENGTH 8) (lines_in self.old) carry }
