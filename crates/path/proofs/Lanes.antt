@@ -1,11 +1,12 @@
 -- In each lane a run lands the carries in the order in which they were started.
-use Rattle.std.proofs.Common.{◌≡◌, ℕ, ◌+◌, ◌<◌, ◌≤◌, true, false, cond, eqb, ltb, ◌≢◌, List, [], ◌∷◌, ◌++◌, length, get_or, take, set, Some, Ok, Err, filter, Result, sym, refl, ap, ◌∙◌, subst, ⊎_elim, arith}
+use Rattle.std.proofs.Common.{◌≡◌, ℕ, ◌+◌, ◌<◌, ◌≤◌, false, eqb, ◌≢◌, List, [], ◌∷◌, ◌++◌, length, get_or, take, set, Some, Ok, Err, filter, Result, sym, refl, ap, ◌∙◌, subst, ⊎_elim, arith}
 use Rattle.std.proofs.lemmas.List.Elements.{filter-append}
 use Rattle.std.proofs.lemmas.List.{take_more, take_more_set, length-set, get_or-set_same, get_or-set_other, get_or_past, append-nil, append_assoc}
-use Rattle.std.proofs.lemmas.Bool.{cases_eq, cases_lt, cases_Bool, cond-true, cond-false, and_left, and_right, and_parts, and_from, eq-eqb, ne_eqb, eqb-true, lt-ltb}
+use Rattle.std.proofs.lemmas.Bool.Decides.{nat_tests}
+use Rattle.std.proofs.lemmas.Grind.{common_steps}
+use Rattle.std.proofs.lemmas.Bool.{cases_eq, cases_lt, cond-true, cond-false, and_from, eq-eqb}
 use Rattle.model.specs.declared.carry.Carry.{Carry}
 use Rattle.model.specs.declared.refusal.Refusal.{Refusal}
-use Rattle.model.specs.declared.refusal.Refusal.TheVariants.{NoSuchBoard, NoSuchCell, LineFull}
 use Rattle.carries.specs.Lines.{line, of_lane, lane, oldest, joined, start_at, if_started, without}
 use Rattle.carries.specs.Lines as lines
 use Rattle.path.specs.Runs.{start_reply, LandReply, Takes, Run, end, then, accepted_by, accepted, landed_by, landed, InOrder}
@@ -16,10 +17,10 @@ use Rattle.path.specs.declared.order.Reply.TheVariants.{Started, Refused, Landed
 
 -- a carry of another board or of another cell is not of the lane
 other-board : (b c : ℕ) (x : Carry) → b ≢ x.board → of_lane b c x ≡ false
-other-board b c x ne = and_left (eqb x.board b) (eqb x.cell c) (ne_eqb x.board b (λ e. ne (sym e)))
+other-board b c x ne = grind (arith, nat_tests)
 
 other-cell : (b c : ℕ) (x : Carry) → c ≢ x.cell → of_lane b c x ≡ false
-other-cell b c x ne = and_right (eqb x.board b) (eqb x.cell c) (ne_eqb x.cell c (λ e. ne (sym e)))
+other-cell b c x ne = grind (arith, nat_tests)
 
 kept-none : (b c : ℕ) (x : Carry) → of_lane b c x ≡ false → filter (of_lane b c) (x ∷ []) ≡ []
 kept-none b c x e = cond-false (of_lane b c x) (x ∷ []) [] e
@@ -34,48 +35,21 @@ module _ (ls : List (List Carry)) (k : ℕ) (l : List Carry) where
 
 -- one more in its line
 lane-joined : (ls : List (List Carry)) (x : Carry) (b c : ℕ) → x.board < length ls → lane (set ls x.board (joined (line ls x.board) x)) b c ≡ lane ls b c ++ filter (of_lane b c) (x ∷ [])
-lane-joined ls x b c h =
-    let k = x.board in
-    ⊎_elim
-    (λ (e : b ≡ k).
-    subst (λ b. lane (set ls k (joined (line ls k) x)) b c ≡ lane ls b c ++ filter (of_lane b c) (x ∷ [])) (sym e)
-    (lane-set-same ls k (joined (line ls k) x) c h ∙ filter-append (of_lane k c) (line ls k) (x ∷ [])))
-    (λ (ne : b ≡ k → ⊥).
-    lane-set-other ls k (joined (line ls k) x) b c ne
-    ∙ sym (append-nil (lane ls b c))
-    ∙ ap (λ l. lane ls b c ++ l) (sym (kept-none b c x (other-board b c x ne))))
-    (cases_eq b k)
+lane-joined ls x b c h = grind (
+  arith,
+  common_steps,
+  other-board b c x,
+  filter-append (of_lane b c) (line ls x.board) (x ∷ []),
+)
 
 -- one less in its line
 without-same : (b c : ℕ) (xs : List Carry) (x : Carry) → oldest (filter (of_lane b c) xs) ≡ Some x → filter (of_lane b c) xs ≡ x ∷ filter (of_lane b c) (without b c xs)
 without-same b c [] x e = cc
-without-same b c (y ∷ ys) x e =
-    ⊎_elim
-    (λ (t : of_lane b c y ≡ true).
-    let here = cond-true (of_lane b c y) (y ∷ filter (of_lane b c) ys) (filter (of_lane b c) ys) t in
-    let gone = cond-true (of_lane b c y) ys (y ∷ without b c ys) t in
-    let is : y ≡ x = (let s = sym (ap oldest here) ∙ e in cc) in
-    here ∙ ap (λ z. z ∷ filter (of_lane b c) ys) is ∙ ap (λ l. x ∷ filter (of_lane b c) l) (sym gone))
-    (λ (f : of_lane b c y ≡ false).
-    let here = cond-false (of_lane b c y) (y ∷ filter (of_lane b c) ys) (filter (of_lane b c) ys) f in
-    let gone = cond-false (of_lane b c y) ys (y ∷ without b c ys) f in
-    here
-    ∙ without-same b c ys x (sym (ap oldest here) ∙ e)
-    ∙ ap (λ l. x ∷ l) (sym (ap (filter (of_lane b c)) gone ∙ cond-false (of_lane b c y) (y ∷ filter (of_lane b c) (without b c ys)) (filter (of_lane b c) (without b c ys)) f)))
-    (cases_Bool (of_lane b c y))
+without-same b c (y ∷ ys) x e = grind (arith, nat_tests, without-same b c ys x)
 
 without_other : (b c d : ℕ) (xs : List Carry) → c ≢ d → filter (of_lane b c) (without b d xs) ≡ filter (of_lane b c) xs
 without_other b c d [] ne = refl
-without_other b c d (y ∷ ys) ne =
-    ⊎_elim
-    (λ (t : of_lane b d y ≡ true).
-    let cell : y.cell ≡ d = eqb-true y.cell d (and_parts (eqb y.board b) (eqb y.cell d) t).1 in
-    ap (filter (of_lane b c)) (cond-true (of_lane b d y) ys (y ∷ without b d ys) t)
-    ∙ sym (cond-false (of_lane b c y) (y ∷ filter (of_lane b c) ys) (filter (of_lane b c) ys) (other-cell b c y (λ e. ne (e ∙ cell)))))
-    (λ (f : of_lane b d y ≡ false).
-    ap (filter (of_lane b c)) (cond-false (of_lane b d y) ys (y ∷ without b d ys) f)
-    ∙ ap (λ l. cond (of_lane b c y) (y ∷ l) l) (without_other b c d ys ne))
-    (cases_Bool (of_lane b d y))
+without_other b c d (y ∷ ys) ne = grind (arith, nat_tests, without_other b c d ys)
 
 inside : (ls : List (List Carry)) (x : Carry) → oldest (lane ls x.board x.cell) ≡ Some x → x.board < length ls
 inside ls x e =
@@ -125,14 +99,7 @@ module _ (ls ls' : List (List Carry)) (x : Carry) (l : lines.Landed ls (Some x) 
       (cases_eq b x.board)
 
 on-board : (n : ℕ) (ls : List (List Carry)) (x : Carry) (u : Unit {0}) → start_at n ls x ≡ Ok u → x.board < 8
-on-board n ls x u e =
-    ⊎_elim
-    (λ (h : x.board < 8). h)
-    (λ (h : 8 ≤ x.board).
-    let refused = cond-true {A = Result (Unit {0}) Refusal} (ltb 7 x.board) (Err NoSuchBoard) (cond (ltb 63 x.cell) (Err NoSuchCell) (cond (ltb (length (line ls x.board)) n) (Ok tt) (Err LineFull))) (lt-ltb 7 x.board (omega arith)) in
-    let z : ◌≡◌ {A = ℕ} 0 1 = cc in
-    absurd (omega arith))
-    (cases_lt x.board 8)
+on-board n ls x u e = grind (arith, nat_tests)
 
 -- one order: what waited and what it started is what it landed and what waits then
 module _ (n : ℕ) (ls : List (List Carry)) (eight : length ls ≡ 8) (b c : ℕ) where

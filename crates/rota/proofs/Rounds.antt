@@ -4,7 +4,8 @@ use Rattle.std.specs.List.{range_with_len, find}
 use Rattle.std.specs.Option.{option_or}
 use Rattle.std.proofs.lemmas.List.Folds.{find-append}
 use Rattle.std.proofs.lemmas.List.{get_or_past}
-use Rattle.std.proofs.lemmas.Bool.{cases_eq, cases_lt, cases_Bool, both_ways, true≢false, false≢true, or_cases, cond-true, cond-false, cond_both, lt-ltb, le-ltb, ltb-true, ltb-false, eqb-true}
+use Rattle.std.proofs.lemmas.Bool.Decides.{nat_tests}
+use Rattle.std.proofs.lemmas.Bool.{cases_lt, cases_Bool, true≢false, false≢true, or_cases, cond-true, cond-false, eqb-true}
 use Rattle.model.specs.declared.carry.Carry.{Carry}
 use Rattle.carries.specs.Lines.{line, oldest}
 use Rattle.rota.specs.Turns.{occurs, EveryBoard, waits, can_land, coming_round, turn_after, Served}
@@ -16,9 +17,8 @@ FirstIn p a m (Some i) = (a ≤ i) × (i < a + m) × (p i ≡ true) × ((j : ℕ
 
 module _ (p : ℕ → Bool) where
   one-before : (a m : ℕ) → p a ≡ false → (r : Option ℕ) → FirstIn p (a + 1) m r → FirstIn p a (suc m) r
-  one-before a m f None h = λ j low high. ⊎_elim (λ (e : a ≡ j). ap p (sym e) ∙ f) (λ (ne : a ≡ j → ⊥). h j (omega arith) (omega arith)) (cases_eq a j)
-  one-before a m f (Some i) h =
-      (omega (arith, h.0), omega (arith, h.1), h.2, λ j low high. ⊎_elim (λ (e : a ≡ j). ap p (sym e) ∙ f) (λ (ne : a ≡ j → ⊥). h.3 j (omega arith) high) (cases_eq a j))
+  one-before a m f None h = λ j low high. grind (arith, f, h j)
+  one-before a m f (Some i) h = (omega (arith, h.0), omega (arith, h.1), h.2, λ j low high. grind (arith, f, h.3 j))
 
   first-in : (a m : ℕ) → FirstIn p a m (find p (range_with_len a m))
   first-in a zero = λ j low high. absurd (omega arith)
@@ -30,16 +30,8 @@ module _ (p : ℕ → Bool) where
       (cases_Bool (p a))
 
 -- how many of n turns are passed over from turn t to turn i
-pub passed : ℕ → ℕ → ℕ → ℕ
+abbrev pub passed : ℕ → ℕ → ℕ → ℕ
 passed n t i = cond (ltb i t) (n - t + i) (i - t)
-
-pub passed-ahead : (n t i : ℕ) → t ≤ i → passed n t i ≡ i - t
-unfolding passed
-passed-ahead n t i h = cond-false (ltb i t) (n - t + i) (i - t) (le-ltb i t h)
-
-pub passed-behind : (n t i : ℕ) → i < t → passed n t i ≡ n - t + i
-unfolding passed
-passed-behind n t i h = cond-true (ltb i t) (n - t + i) (i - t) (lt-ltb i t h)
 
 -- the first turn that passes a test, as the n turns come round from turn t
 abbrev pub FirstRound : (ℕ → Bool) → ℕ → ℕ → Option ℕ → Type 0
@@ -49,38 +41,12 @@ FirstRound p n t (Some i) = (i < n) × (p i ≡ true) × ((j : ℕ) → j < n �
 module _ (p : ℕ → Bool) (n t : ℕ) (inside : t < n) where
   -- found ahead of t
   ahead : (i : ℕ) → FirstIn p t (n - t) (Some i) → FirstRound p n t (Some i)
-  ahead i h =
-      let here = passed-ahead n t i h.0 in (
-        omega (arith, h.1),
-        h.2,
-        λ j in-round pass.
-            ⊎_elim
-            (λ (l : j < t). omega (arith, h.1, passed-behind n t j l))
-            (λ (l : t ≤ j).
-            ⊎_elim
-            (λ (early : j < i). absurd (both_ways (p j) (h.3 j l early) pass))
-            (λ (late : i ≤ j). omega (arith, passed-ahead n t j l))
-            (cases_lt j i))
-            (cases_lt j t),
-      )
+  ahead i h = (omega (arith, h.1), h.2, λ j in-round pass. grind (arith, nat_tests, h.0, h.1, h.3 j))
 
   -- nothing ahead of t, so from the start
   behind : FirstIn p t (n - t) None → (r : Option ℕ) → FirstIn p 0 t r → FirstRound p n t r
-  behind none None h = λ j in-round. ⊎_elim (λ (l : j < t). h j (omega arith) (omega arith)) (λ (l : t ≤ j). none j l (omega arith)) (cases_lt j t)
-  behind none (Some i) h =
-      let here = passed-behind n t i (omega (arith, h.1)) in (
-        omega (arith, h.1),
-        h.2,
-        λ j in-round pass.
-            ⊎_elim
-            (λ (l : j < t).
-            ⊎_elim
-            (λ (early : j < i). absurd (both_ways (p j) (h.3 j (omega arith) early) pass))
-            (λ (late : i ≤ j). omega (arith, passed-behind n t j l))
-            (cases_lt j i))
-            (λ (l : t ≤ j). absurd (both_ways (p j) (none j l (omega arith)) pass))
-            (cases_lt j t),
-      )
+  behind none None h = λ j in-round. grind (arith, none j, h j)
+  behind none (Some i) h = (omega (arith, h.1), h.2, λ j in-round pass. grind (arith, nat_tests, h.1, none j, h.3 j))
 
   pub first_round : FirstRound p n t (find p (coming_round n t))
   first_round = subst (FirstRound p n t) (sym (find-append p (range_with_len t (n - t)) (range_with_len 0 t))) (go (find p (range_with_len t (n - t))) (first-in p t (n - t)))
@@ -92,45 +58,13 @@ module _ (p : ℕ → Bool) (n t : ℕ) (inside : t < n) where
 -- the turn after turn i: every turn that was further off than i is nearer by those passed over and by one
 pub after_turn : (ts : List ℕ) (t i j : ℕ) → t < length ts → i < length ts → j < length ts → passed (length ts) t i < passed (length ts) t j
     → (turn_after ts i < length ts) × (passed (length ts) (turn_after ts i) j + passed (length ts) t i + 1 ≡ passed (length ts) t j)
-after_turn ts t i j t-in i-in j-in less =
-    let n = length ts in
-    let P : ℕ → Type 0 = λ u. (u < n) × (passed n u j + passed n t i + 1 ≡ passed n t j) in
-    cond_both (ltb (i + 1) n) (i + 1) 0 P
-    (λ e.
-    let below : i + 1 < n = ltb-true (i + 1) n e in
-    ⊎_elim
-    (λ (l : i < t).
-    let i-is = passed-behind n t i l in
-    ⊎_elim
-    (λ (m : j < t). let j-is = passed-behind n t j m in let then_is = passed-ahead n (i + 1) j (omega arith) in (below, omega arith))
-    (λ (m : t ≤ j). let j-is = passed-ahead n t j m in absurd (omega arith))
-    (cases_lt j t))
-    (λ (l : t ≤ i).
-    let i-is = passed-ahead n t i l in
-    ⊎_elim
-    (λ (m : j < t). let j-is = passed-behind n t j m in let then_is = passed-behind n (i + 1) j (omega arith) in (below, omega arith))
-    (λ (m : t ≤ j). let j-is = passed-ahead n t j m in let then_is = passed-ahead n (i + 1) j (omega arith) in (below, omega arith))
-    (cases_lt j t))
-    (cases_lt i t))
-    (λ e.
-    let last : n ≤ i + 1 = ltb-false (i + 1) n e in
-    let i-is = passed-ahead n t i (omega arith) in
-    let then_is = passed-ahead n 0 j (omega arith) in
-    ⊎_elim
-    (λ (m : j < t). let j-is = passed-behind n t j m in (omega arith, omega arith))
-    (λ (m : t ≤ j). let j-is = passed-ahead n t j m in absurd (omega arith))
-    (cases_lt j t))
+after_turn ts t i j t-in i-in j-in less = grind (arith, nat_tests)
 
 pub passed-most : (n t j : ℕ) → t < n → j < n → passed n t j < n
-passed-most n t j h k =
-    ⊎_elim (λ (l : j < t). omega (arith, passed-behind n t j l)) (λ (l : t ≤ j). omega (arith, passed-ahead n t j l)) (cases_lt j t)
+passed-most n t j h k = grind (arith, nat_tests)
 
 pub passed-same : (n t i j : ℕ) → t < n → i < n → j < n → passed n t i ≡ passed n t j → i ≡ j
-passed-same n t i j h k l e =
-    ⊎_elim
-    (λ (a : i < t). ⊎_elim (λ (b : j < t). omega (arith, passed-behind n t i a, passed-behind n t j b)) (λ (b : t ≤ j). omega (arith, passed-behind n t i a, passed-ahead n t j b)) (cases_lt j t))
-    (λ (a : t ≤ i). ⊎_elim (λ (b : j < t). omega (arith, passed-ahead n t i a, passed-behind n t j b)) (λ (b : t ≤ j). omega (arith, passed-ahead n t i a, passed-ahead n t j b)) (cases_lt j t))
-    (cases_lt i t)
+passed-same n t i j h k l e = grind (arith, nat_tests)
 
 -- where a board has a turn
 pub turn-of : (b : ℕ) (ts : List ℕ) → occurs b ts ≡ true → (j : ℕ) × (j < length ts) × (get_or ts j 0 ≡ b)
