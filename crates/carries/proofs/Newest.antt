@@ -21,8 +21,7 @@ module _ {X : Type 0} (p : X → Bool) where
   standing-cons x xs o false (Some i) = refl
 
   kept_cons : (x : X) (xs : List X) (o : Option X) → last_or o (filter p (x ∷ xs)) ≡ last_or (cond (p x) (Some x) o) (filter p xs)
-  kept_cons x xs o =
-      elim (p x) as (λ b. last_or o (cond b (x ∷ filter p xs) (filter p xs)) ≡ last_or (cond b (Some x) o) (filter p xs)) [ true ↦ refl | false ↦ refl ]
+  kept_cons x xs o = grind arith
 
   last-standing : (xs : List X) (o : Option X) → last_or o (filter p xs) ≡ standing xs o (last_place p xs)
   last-standing [] o = refl

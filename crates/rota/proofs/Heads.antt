@@ -4,6 +4,7 @@ use Rattle.std.specs.Option.{option_to_list}
 use Rattle.std.specs.List.{AllByRecursion}
 use Rattle.std.proofs.ByRecursion.{All-push, All-weaker, All-drop}
 use Rattle.std.proofs.lemmas.List.{length-set, get_or-set_same, get_or-set_other, get_or_past}
+use Rattle.std.proofs.lemmas.Grind.{common_steps}
 use Rattle.std.proofs.lemmas.Bool.{cases_eq, cases_lt, both_ways, false≢true}
 use Rattle.model.specs.declared.carry.Carry.{Carry}
 use Rattle.model.specs.declared.refusal.Refusal.{Refusal}
@@ -27,17 +28,7 @@ own-set : (ls : List (List Carry)) (k : ℕ) (l : List Carry) → Own ls → All
 own-set ls k l o all =
     record {
       eight = length-set ls k l ∙ o.eight;
-      own = λ b.
-          ⊎_elim
-          (λ (e : b ≡ k).
-          ⊎_elim
-          (λ (h : k < length ls). subst (λ b. AllByRecursion (λ x. x.board ≡ b) (line (set ls k l) b)) (sym e) (subst (AllByRecursion (λ x. x.board ≡ k)) (sym (get_or-set_same ls k l [] h)) all))
-          (λ (h : length ls ≤ k).
-          subst (λ b. AllByRecursion (λ x. x.board ≡ b) (line (set ls k l) b)) (sym e)
-          (subst (AllByRecursion (λ x. x.board ≡ k)) (sym (get_or_past (set ls k l) k [] (omega (arith, length-set ls k l)))) tt))
-          (cases_lt k (length ls)))
-          (λ (ne : b ≡ k → ⊥). subst (AllByRecursion (λ x. x.board ≡ b)) (sym (get_or-set_other ls k b l [] ne)) (o.own b))
-          (cases_eq b k);
+      own = λ b. grind (arith, common_steps, o.own b, get_or_past (set ls k l) b [], length-set ls k l);
     }
 
 own-started : (ls : List (List Carry)) (x : Carry) (s : Result (Unit {0}) Refusal) → Own ls → Own (if_started s (set ls x.board (joined (line ls x.board) x)) ls)
@@ -56,10 +47,7 @@ head-started ls x (Ok u) b h l is =
     ⊎_elim
     (λ (i : k < length ls).
     (l ++ x ∷ [], ap (line (set ls k new)) e ∙ get_or-set_same ls k new [] i ∙ ap (λ m. m ++ x ∷ []) (ap (line ls) (sym e) ∙ is)))
-    (λ (i : length ls ≤ k).
-    let none = sym (get_or_past ls b [] (omega arith)) ∙ is in
-    let z : ◌≡◌ {A = ℕ} 0 1 = cc in
-    absurd (omega arith))
+    (λ (i : length ls ≤ k). grind (arith, get_or_past ls b []))
     (cases_lt k (length ls)))
     (λ (ne : b ≡ k → ⊥). (l, get_or-set_other ls k b new [] ne ∙ is))
     (cases_eq b k)
