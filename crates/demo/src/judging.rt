@@ -1,6 +1,7 @@
 // Which words the judge lets a board read, on one cell that starts at 0.
+use super::told::Told;
 use home::pair_home::PairHome;
-use judge::judge::Judge;
+use judge::judge::{FREE, Judge};
 use model::event::{Action, Event};
 use std::io;
 
@@ -8,70 +9,52 @@ const BOARDS: u32 = 2;
 
 const CELL: u32 = 0;
 
-const FREE: Event = Event {
-    board: 0,
-    cell: 0,
-    action: Action::Release,
-};
-
 pub fn show(rt: &impl Print) -> io::Result<()> {
     println!(rt; "board 0 hands the cell over to board 1:")?;
-    let mut list = [FREE; 5];
-    let mut judge = Judge::new(&mut list);
-    note(rt, &mut judge, 0, Action::Acquire)?;
-    note(rt, &mut judge, 0, Action::Write(1))?;
-    note(rt, &mut judge, 0, Action::Release)?;
-    note(rt, &mut judge, 1, Action::Write(2))?;
-    note(rt, &mut judge, 1, Action::Acquire)?;
-    note(rt, &mut judge, 1, Action::Acquire)?;
-    ask(rt, &judge, 1, 0)?;
-    ask(rt, &judge, 1, 1)?;
-    ask(rt, &judge, 1, 2)?;
-    alone(rt)?;
-    twice(rt)
-}
-
-fn alone(rt: &impl Print) -> io::Result<()> {
+    let handed = [
+        (0, Action::Acquire),
+        (0, Action::Write(1)),
+        (0, Action::Release),
+        (1, Action::Write(2)),
+        (1, Action::Acquire),
+        (1, Action::Acquire),
+    ];
+    scene(rt, &mut [FREE; 5], &handed, 1, &[0, 1, 2])?;
     println!(rt; "board 1 only writes:")?;
-    let mut list = [FREE; 1];
-    let mut judge = Judge::new(&mut list);
-    note(rt, &mut judge, 1, Action::Write(2))?;
-    ask(rt, &judge, 1, 0)?;
-    ask(rt, &judge, 1, 2)
+    scene(rt, &mut [FREE; 1], &[(1, Action::Write(2))], 1, &[0, 2])?;
+    println!(rt; "board 0 writes twice:")?;
+    let twice = [(0, Action::Write(1)), (0, Action::Write(2))];
+    scene(rt, &mut [FREE; 2], &twice, 0, &[1, 2])
 }
 
-fn twice(rt: &impl Print) -> io::Result<()> {
-    println!(rt; "board 0 writes twice:")?;
-    let mut list = [FREE; 2];
-    let mut judge = Judge::new(&mut list);
-    note(rt, &mut judge, 0, Action::Write(1))?;
-    note(rt, &mut judge, 0, Action::Write(2))?;
-    ask(rt, &judge, 0, 1)?;
-    ask(rt, &judge, 0, 2)
+// A judge with that list of events hears what some boards do, and is asked which of the words a board may read.
+fn scene(
+    rt: &impl Print,
+    events: &mut [Event],
+    actions: &[(u32, Action)],
+    reader: u32,
+    words: &[u32],
+) -> io::Result<()> {
+    let mut judge = Judge::new(events);
+    for (board, action) in actions {
+        note(rt, &mut judge, *board, *action)?;
+    }
+    for word in words {
+        ask(rt, &judge, reader, *word)?;
+    }
+    Ok(())
 }
 
 fn note(rt: &impl Print, judge: &mut Judge<'_>, board: u32, action: Action) -> io::Result<()> {
-    let answer = judge.note(
-        BOARDS,
-        &PairHome::new(1, 0),
-        Event {
-            board,
-            cell: CELL,
-            action,
-        },
-    );
-    print!(rt; "  board {board} ")?;
-    match action {
-        Action::Write(word) => print!(rt; "writes {word}")?,
-        Action::Acquire => print!(rt; "acquires")?,
-        Action::Release => print!(rt; "releases")?,
-    }
-    match answer {
-        Ok(number) => println!(rt; ": event {number}"),
-        Err(refusal) => {
-            let number = refusal.number();
-            println!(rt; ": refused with {number}, {refusal}")
-        }
+    let told = Told(action);
+    let event = Event {
+        board,
+        cell: CELL,
+        action,
+    };
+    match judge.note(BOARDS, &PairHome::new(1, 0), event) {
+        Ok(number) => println!(rt; "  board {board} {told}: event {number}"),
+        Err(refusal) => println!(rt; "  board {board} {told}: {}", Told(refusal)),
     }
 }
 

@@ -7,6 +7,7 @@ mod floor;
 mod judging;
 mod memory;
 mod paths;
+mod told;
 
 fn main(rt: HostRuntime) -> io::Result<()> {
     memory::show(&rt)?;

@@ -1,5 +1,6 @@
 // A target and its correction leave one board, with other boards' write backs between them. Whichever path they take,
 // the correction lands last.
+use super::told::Told;
 use home::pair_home::PairHome;
 use home::source::{Home, Source};
 use model::carry::Carry;
@@ -18,22 +19,21 @@ pub fn show(rt: &impl Print) -> io::Result<()> {
 }
 
 fn send<P: Path + Drop>(rt: &impl Print, mut path: P) -> io::Result<()> {
-    start(rt, &mut path, 6, TARGET, 620)?;
-    start(rt, &mut path, 1, 9, 45)?;
-    start(rt, &mut path, 6, TARGET, 580)?;
-    start(rt, &mut path, 0, 9, 46)?;
-    start(rt, &mut path, 1, 12, 7)?;
+    for (board, cell, word) in [
+        (6, TARGET, 620),
+        (1, 9, 45),
+        (6, TARGET, 580),
+        (0, 9, 46),
+        (1, 12, 7),
+    ] {
+        start(rt, &mut path, Carry { board, cell, word })?;
+    }
     land_all(rt, &mut path)
 }
 
-fn start<P: Path>(
-    rt: &impl Print,
-    path: &mut P,
-    board: u32,
-    cell: u32,
-    word: u32,
-) -> io::Result<()> {
-    match path.start(Carry { board, cell, word }) {
+fn start<P: Path>(rt: &impl Print, path: &mut P, carry: Carry) -> io::Result<()> {
+    let Carry { board, cell, word } = carry;
+    match path.start(carry) {
         Ok(()) => println!(rt; "  board {board} sends {word} to cell {cell}"),
         Err(refusal) => println!(rt; "  board {board} may not send {word}: {refusal}"),
     }
@@ -47,8 +47,7 @@ fn land_all<P: Path>(rt: &impl Print, path: &mut P) -> io::Result<()> {
             break;
         };
         let _ = home.write(carry.cell, carry.word);
-        let Carry { board, cell, word } = carry;
-        println!(rt; "  landed: {word} from board {board} in cell {cell}")?;
+        println!(rt; "  landed: {}", Told(carry))?;
     }
     match home.read(TARGET) {
         Ok(word) => println!(rt; "  cell {TARGET} of the home holds {word}"),

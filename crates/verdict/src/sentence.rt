@@ -1,11 +1,11 @@
 // The verdict in words.
 use grammar::kind::Kind;
 use home::pair_home::PairHome;
-use judge::judge::{Judge, MOST_EVENTS};
-use model::event::{Action, Event};
+use indexmap::IndexSet;
+use judge::judge::{FREE, Judge, MOST_EVENTS};
+use model::event::Action;
 use station::task::{Task, task_of};
 use station::verdict::Verdict;
-use std::alloc::Global;
 use std::io;
 use text::fault::{Fault, Layer};
 use text::trace::Trace;
@@ -44,67 +44,37 @@ fn tell_false_read(rt: &HostRuntime, line: u32, log: &[u8]) -> io::Result<()> {
         return Ok(());
     };
     let home = PairHome::new(header.cells, header.start);
-    let mut events = [Event {
-        board: 0,
-        cell: 0,
-        action: Action::Release,
-    }; MOST_EVENTS];
+    let mut events = [FREE; MOST_EVENTS];
     let mut judge = Judge::new(&mut events);
-    let mut words = Vec::new(rt.alloc());
-    words.push(header.start)?;
+    // Each word once, in the order of the first writes.
+    let mut words = IndexSet::new(rt.alloc());
+    words.insert(header.start)?;
     while let Ok(Some(placed)) = trace.next() {
         match task_of(placed.step) {
             Task::Note(event) => {
                 let _ = judge.note(header.boards, &home, event);
-                add_word(&mut words, event.action)?;
+                if let Action::Write(word) = event.action {
+                    words.insert(word)?;
+                }
             }
             Task::Check { board, cell, word } if placed.line == line => {
                 print!(rt;
                     "Line {line}: board {board} read {word} from cell {cell}; readable for it there"
                 )?;
-                let readable = readable(
-                    rt.alloc(),
-                    &judge,
-                    header.boards,
-                    &home,
-                    board,
-                    cell,
-                    words.as_slice(),
-                )?;
+                let readable: Vec<u32> = words
+                    .iter()
+                    .copied()
+                    .filter(|w| matches!(
+                        judge.legal(header.boards, &home, board, cell, *w),
+                        Ok(Some(_))
+                    ))
+                    .collect(rt.alloc())?;
                 return tell_words(rt, readable.as_slice());
             }
             _ => {}
         }
     }
     Ok(())
-}
-
-// Each word once, in the order of the first writes.
-fn add_word(words: &mut Vec<u32>, action: Action) -> io::Result<()> {
-    if let Action::Write(word) = action {
-        if !words.as_slice().contains(&word) {
-            words.push(word)?;
-        }
-    }
-    Ok(())
-}
-
-fn readable(
-    heap: Global,
-    judge: &Judge<'_>,
-    boards: u32,
-    home: &PairHome,
-    board: u32,
-    cell: u32,
-    words: &[u32],
-) -> io::Result<Vec<u32>> {
-    let mut some = Vec::new(heap);
-    for word in words {
-        if let Ok(Some(_)) = judge.legal(boards, home, board, cell, *word) {
-            some.push(*word)?;
-        }
-    }
-    Ok(some)
 }
 
 fn tell_words(rt: &HostRuntime, words: &[u32]) -> io::Result<()> {
