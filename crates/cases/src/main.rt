@@ -47,13 +47,10 @@ fn check_file(rt: &HostRuntime, name: &str) -> io::Result<bool> {
 
 fn main(rt: HostRuntime) -> io::Result<()> {
     let names = env::args(&rt)?;
-    let mut all = 0u32;
-    let mut good = 0u32;
+    let mut found = Vec::new(rt.alloc());
     for name in names.skip(1) {
-        all = all.saturating_add(1);
-        if check_file(&rt, name.as_str())? {
-            good = good.saturating_add(1);
-        }
+        found.push(check_file(&rt, name.as_str())?)?;
     }
-    println!(rt; "{good} of {all} as expected")
+    let good = found.iter().filter(|as_expected| **as_expected).count();
+    println!(rt; "{good} of {} as expected", found.len())
 }
