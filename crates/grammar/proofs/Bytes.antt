@@ -1,22 +1,20 @@
 -- What stands at the front of a list of bytes.
-use Rattle.std.proofs.Common.{◌≡◌, ℕ, true, false, cond, eqb, List, [], ◌∷◌, ◌++◌, length, get_or, Some, None, Option, sym, refl, ap, ◌∙◌, arith, Bor, MatchOption}
+use Rattle.std.proofs.Common.{◌≡◌, ℕ, List, [], ◌∷◌, ◌++◌, length, get_or, Some, None, Option, sym, refl, ap, ◌∙◌, arith, Bor, MatchOption}
 use Rattle.std.specs.Option.{option_map}
-use Rattle.std.proofs.lemmas.Bool.{eq-eqb, eqb-true, cond-true}
+use Rattle.std.proofs.lemmas.Bool.Decides.{nat_tests}
 use Rattle.grammar.specs.Fields.{after}
 
 pub after-append : (p x : List ℕ) → after p (p ++ x) ≡ Some x
 after-append [] x = refl
-after-append (c ∷ p) x = cond-true (eqb c c) (after p (p ++ x)) None (eq-eqb c c refl) ∙ after-append p x
+after-append (c ∷ p) x = let rest = after-append p x in grind (arith, nat_tests)
 
 -- where nothing follows p, the line does not begin with it
 after_none : (p l : List ℕ) → ((x : List ℕ) → l ≡ p ++ x → ⊥) → after p l ≡ None
 after_none [] l h = absurd (h l refl)
 after_none (c ∷ p) [] h = refl
 after_none (c ∷ p) (d ∷ l) h =
-    elim (eqb c d) as (λ t. (eqb c d ≡ t → cond t (after p l) None ≡ None)) [
-      | true ↦ λ e. after_none p l (λ x q. h x (let s = eqb-true c d e in cc))
-      | false ↦ λ _. refl
-    ] refl
+    let rest = after_none p l in
+    grind (arith, nat_tests)
 
 pub after_is : (p l : List ℕ) (r : Option (Bor (List ℕ))) → MatchOption r ((x : List ℕ) → l ≡ p ++ x → ⊥) (λ x. l ≡ p ++ x.now) → option_map (λ (x : Bor (List ℕ)). x.now) r ≡ after p l
 after_is p l None h = sym (after_none p l h)

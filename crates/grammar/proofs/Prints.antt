@@ -1,9 +1,10 @@
 -- What is printed is read back, number by number and line by line.
-use Rattle.std.proofs.Common.{◌≡◌, ℕ, ◌+◌, ◌-◌, ◌*◌, ◌/◌, ◌%◌, ◌<◌, ◌≤◌, Bool, true, false, cond, not, ◌&&◌, ◌||◌, eqb, leb, List, [], ◌∷◌, ◌++◌, Some, None, decimal, sym, refl, ap, ◌∙◌, ⊎_elim, arith}
+use Rattle.std.proofs.Common.{◌≡◌, ℕ, ◌+◌, ◌*◌, ◌/◌, ◌%◌, ◌<◌, ◌≤◌, Bool, true, false, cond, not, ◌&&◌, ◌||◌, eqb, List, [], ◌∷◌, ◌++◌, Some, decimal, sym, refl, ap, ◌∙◌, arith}
 use Rattle.std.specs.Char.{is_ascii_digit}
 use Rattle.std.proofs.lemmas.Fmt.{decimal_by_steps}
+use Rattle.std.proofs.lemmas.Bool.Decides.{nat_tests}
 use Rattle.std.proofs.lemmas.List.{append_assoc, append-nil}
-use Rattle.std.proofs.lemmas.Bool.{cond-true, cond-false, and_from, and_parts, false≢true, le-leb, eq-eqb, ne_eqb, cases_eq, not-true, or_from, or_left}
+use Rattle.std.proofs.lemmas.Bool.{false≢true}
 use Rattle.grammar.proofs.Bytes.{after-append}
 use Rattle.model.specs.declared.step.Step.{Step}
 use Rattle.model.specs.declared.step.Step.TheVariants.{Read, Write, Acquire, Release, WriteBack, Eject, Land}
@@ -12,50 +13,32 @@ use Rattle.grammar.specs.declared.kind.Kind.TheVariants.{Run, Log}
 use Rattle.grammar.specs.declared.trace_step.TraceStep.{TraceStep}
 use Rattle.grammar.specs.declared.trace_step.TraceStep.TheVariants.{Plain, ReadWord}
 use Rattle.grammar.specs.Fields.{kind_of, number_after}
-use Rattle.grammar.specs.Numbers.{and_then, digits, number, dot, alone, whole, place, place_alone, place_word}
-use Rattle.grammar.specs.Pieces.{remark, field, holds, step_or_field, plain_piece, piece, is_remark, field_of}
+use Rattle.grammar.specs.Numbers.{and_then, digits, number, alone, whole, place, place_alone, place_word}
+use Rattle.grammar.specs.Pieces.{field, holds, piece, is_remark, field_of}
 use Rattle.grammar.specs.Printing.{Word, Words, Writable, kind_line, field_line, place_text, word_text, step_line}
 use Rattle.grammar.specs.Steps.{at, at_word, write_of, read_of, step_in}
 
 -- a digit, and the value that it brings
 digit-is : (d : ℕ) → d < 10 → is_ascii_digit (48 + d) ≡ true
-digit-is d h = and_from (leb 48 (48 + d)) (leb (48 + d) 57) (le-leb 48 (48 + d) (omega arith)) (le-leb (48 + d) 57 (omega arith))
+digit-is d h = grind (arith, nat_tests)
 
 more-digit : (m d : ℕ) (rest : List ℕ) → d < 10 → m * 10 + d ≤ 4294967295 → digits m ((48 + d) ∷ rest) ≡ digits (m * 10 + d) rest
-more-digit m d rest h w =
-    let e : 48 + d - 48 ≡ d = omega arith in
-    cond-true _ _ _ (digit-is d h)
-    ∙ cond-true _ _ _ (le-leb (m * 10 + (48 + d - 48)) 4294967295 (omega arith))
-    ∙ ap (λ k. digits (m * 10 + k) rest) e
+more-digit m d rest h w = grind (arith, nat_tests)
 
 -- ds are the digits of the number n
 abbrev Front : ℕ → List ℕ → Type 0
 Front n ds = n ≤ 4294967295 → (rest : List ℕ) → number (ds ++ rest) ≡ cond (eqb n 0) (Some (0, rest)) (digits n rest)
 
 front-one : (n : ℕ) → n < 10 → Front n ((48 + n) ∷ [])
-front-one n h w rest =
-    cond-true _ _ _ (digit-is n h)
-    ∙ ⊎_elim
-    (λ (z : n ≡ 0).
-    cond-true (eqb (48 + n) 48) (Some (0, rest)) (digits (48 + n - 48) rest) (eq-eqb (48 + n) 48 (omega arith))
-    ∙ sym (cond-true (eqb n 0) (Some (0, rest)) (digits n rest) (eq-eqb n 0 z)))
-    (λ (z : n ≡ 0 → ⊥).
-    let e : 48 + n - 48 ≡ n = omega arith in
-    cond-false (eqb (48 + n) 48) (Some (0, rest)) (digits (48 + n - 48) rest) (ne_eqb (48 + n) 48 (λ q. z (omega arith)))
-    ∙ ap (λ k. digits k rest) e
-    ∙ sym (cond-false (eqb n 0) (Some (0, rest)) (digits n rest) (ne_eqb n 0 z)))
-    (cases_eq n 0)
+front-one n h w rest = grind (arith, nat_tests)
 
 front-more : (n : ℕ) (ds : List ℕ) → 10 ≤ n → Front (n / 10) ds → Front n (ds ++ (48 + n % 10) ∷ [])
 front-more n ds h before w rest =
     let d : n % 10 < 10 = omega arith in
     let whole-n : n / 10 * 10 + n % 10 ≡ n = omega arith in
-    ap number (append_assoc ds ((48 + n % 10) ∷ []) rest)
-    ∙ before (omega arith) ((48 + n % 10) ∷ rest)
-    ∙ cond-false (eqb (n / 10) 0) (Some (0, (48 + n % 10) ∷ rest)) (digits (n / 10) ((48 + n % 10) ∷ rest)) (ne_eqb (n / 10) 0 (λ q. omega arith))
-    ∙ more-digit (n / 10) (n % 10) rest d (omega arith)
-    ∙ ap (λ k. digits k rest) whole-n
-    ∙ sym (cond-false (eqb n 0) (Some (0, rest)) (digits n rest) (ne_eqb n 0 (λ q. omega arith)))
+    let digit = more-digit (n / 10) (n % 10) rest d (omega arith) in
+    let front = before (omega arith) ((48 + n % 10) ∷ rest) in
+    rw append_assoc (grind (arith, nat_tests))
 
 -- what follows a number does not go on with a digit
 abbrev quiet : List ℕ → Bool
@@ -64,40 +47,34 @@ quiet (c ∷ cs) = not (is_ascii_digit c)
 
 digits-stop : (n : ℕ) (rest : List ℕ) → quiet rest ≡ true → digits n rest ≡ Some (n, rest)
 digits-stop n [] q = refl
-digits-stop n (c ∷ cs) q = cond-false (is_ascii_digit c) _ _ (not-true (is_ascii_digit c) q)
+digits-stop n (c ∷ cs) q = grind (arith, nat_tests)
 
 number-back : (n : ℕ) (rest : List ℕ) → Word n → quiet rest ≡ true → number (decimal n ++ rest) ≡ Some (n, rest)
 number-back n rest w q =
-    decimal_by_steps Front front-one front-more n (omega arith) w rest
-    ∙ ⊎_elim
-    (λ (z : n ≡ 0). cond-true (eqb n 0) (Some (0, rest)) (digits n rest) (eq-eqb n 0 z) ∙ ap (λ k. Some (k, rest)) (sym z))
-    (λ (z : n ≡ 0 → ⊥). cond-false (eqb n 0) (Some (0, rest)) (digits n rest) (ne_eqb n 0 z) ∙ digits-stop n rest q)
-    (cases_eq n 0)
+    let front = decimal_by_steps Front front-one front-more n (omega arith) w rest in
+    let stop = digits-stop n rest q in
+    grind (arith, nat_tests)
 
 pub whole_back : (n : ℕ) → Word n → whole (decimal n) ≡ Some n
 whole_back n w = ap whole (sym (append-nil (decimal n))) ∙ ap alone (number-back n [] w refl)
 
 place-back : (b c : ℕ) (rest : List ℕ) → Word b → Word c → quiet rest ≡ true → place (decimal b ++ 46 ∷ (decimal c ++ rest)) ≡ Some ((b, c), rest)
-place-back b c rest v w q =
-    ap (λ o. and_then o (λ p. and_then (dot p.1) (λ r. and_then (number r) (λ s. Some ((p.0, s.0), s.1))))) (number-back b (46 ∷ (decimal c ++ rest)) v refl)
-    ∙ ap (λ o. and_then o (λ s. Some ((b, s.0), s.1))) (number-back c rest w q)
+place-back b c rest v w q = rw (number-back b (46 ∷ (decimal c ++ rest)) v refl, number-back c rest w q)
 
 alone-back : (b c : ℕ) → Words b c → place_alone (place_text b c) ≡ Some (b, c)
 alone-back b c w =
     ap (λ s. place_alone (decimal b ++ 46 ∷ s)) (sym (append-nil (decimal c))) ∙ ap alone (place-back b c [] w.0 w.1 refl)
 
 word_back : (b c n : ℕ) → Words b c → Word n → place_word (word_text b c n) ≡ Some ((b, c), n)
-word_back b c n w v =
-    ap (λ o. and_then o (λ p. and_then (dot p.1) (λ r. and_then (whole r) (λ m. Some (p.0, m))))) (place-back b c (46 ∷ decimal n) w.0 w.1 refl)
-    ∙ ap (λ o. and_then o (λ m. Some ((b, c), m))) (whole_back n v)
+word_back b c n w v = rw (place-back b c (46 ∷ decimal n) w.0 w.1 refl, whole_back n v)
 
 -- the line of a step is read as that step
 
 at_back : (f : ℕ → ℕ → Step) (b c : ℕ) → Words b c → at (place_text b c) f ≡ Some (Plain (f b c))
-at_back f b c w = ap (λ o. and_then o (λ p. Some (Plain (f p.0 p.1)))) (alone-back b c w)
+at_back f b c w = rw (alone-back b c w)
 
 at-word-back : (f : ℕ → ℕ → ℕ → TraceStep) (b c v : ℕ) → Words b c → Word v → at_word (word_text b c v) f ≡ Some (f b c v)
-at-word-back f b c v w x = ap (λ o. and_then o (λ p. Some (f p.0.0 p.0.1 p.1))) (word_back b c v w x)
+at-word-back f b c v w x = rw (word_back b c v w x)
 
 pub step_back : (k : Kind) (s : TraceStep) → Writable k s → and_then (piece (step_line s)) (step_in k) ≡ Some s
 step_back k (Plain (Read b c)) w = ap (λ j. read_of j (place_text b c)) w.0 ∙ at_back Read b c w.1
@@ -117,9 +94,7 @@ kind-back Log = refl
 
 holds-append : (b : ℕ) (xs ys : List ℕ) → holds b (xs ++ ys) ≡ (holds b xs || holds b ys)
 holds-append b [] ys = refl
-holds-append b (x ∷ xs) ys =
-    ap (λ t. eqb x b || t) (holds-append b xs ys)
-    ∙ elim (eqb x b) as (λ t. (t || (holds b xs || holds b ys)) ≡ ((t || holds b xs) || holds b ys)) [ true ↦ refl | false ↦ refl ]
+holds-append b (x ∷ xs) ys = rw (holds-append b xs ys) (grind (arith, nat_tests))
 
 -- a field's name with its equals sign, which starts neither as a remark nor as a step
 abbrev pub named : List ℕ → Bool
@@ -131,12 +106,8 @@ field_is : (p ds : List ℕ) → named p ≡ true → piece (p ++ ds) ≡ Some (
 field_is [] ds h = absurd (false≢true h)
 field_is (a ∷ []) ds h = absurd (false≢true h)
 field_is (a ∷ b ∷ q) ds h =
-    let l = a ∷ b ∷ (q ++ ds) in
-    let first = and_parts (not (eqb a 35)) (not (eqb b 61) && holds 61 (a ∷ b ∷ q)) h in
-    let second = and_parts (not (eqb b 61)) (holds 61 (a ∷ b ∷ q)) first.1 in
-    cond-false (eqb a 35) (Some (remark (b ∷ (q ++ ds)))) (plain_piece l) (not-true (eqb a 35) first.0)
-    ∙ ap (step_or_field l) (cond-false (eqb b 61) (Some (a, q ++ ds)) None (not-true (eqb b 61) second.0))
-    ∙ cond-true (holds 61 l) (Some (field l)) None (holds-append 61 (a ∷ b ∷ q) ds ∙ or_left (holds 61 (a ∷ b ∷ q)) (holds 61 ds) second.1)
+    let apart = holds-append 61 q ds in
+    grind (arith, nat_tests)
 
 pub field_back : (p : List ℕ) (n : ℕ) → named p ≡ true → Word n → and_then (and_then (piece (field_line p n)) field_of) (number_after p) ≡ Some n
 field_back p n h w =
@@ -146,17 +117,14 @@ field_back p n h w =
 
 -- no byte 10 is printed inside a line
 
-digit-plain : (d : ℕ) → eqb (48 + d) 10 ≡ false
-digit-plain d = ne_eqb (48 + d) 10 (λ e. omega arith)
-
 number-plain : (n : ℕ) → Word n → holds 10 (decimal n) ≡ false
 number-plain n w =
-    decimal_by_steps (λ m ds. holds 10 ds ≡ false) (λ m _. or_from (eqb (48 + m) 10) false (digit-plain m) refl)
-    (λ m ds _ h. holds-append 10 ds ((48 + m % 10) ∷ []) ∙ or_from (holds 10 ds) (eqb (48 + m % 10) 10 || false) h (or_from (eqb (48 + m % 10) 10) false (digit-plain (m % 10)) refl))
+    decimal_by_steps (λ m ds. holds 10 ds ≡ false) (λ m _. grind (arith, nat_tests))
+    (λ m ds _ h. rw (holds-append 10 ds ((48 + m % 10) ∷ [])) (grind (arith, nat_tests)))
     n (omega arith)
 
 both-plain : (xs ys : List ℕ) → holds 10 xs ≡ false → holds 10 ys ≡ false → holds 10 (xs ++ ys) ≡ false
-both-plain xs ys h k = holds-append 10 xs ys ∙ or_from (holds 10 xs) (holds 10 ys) h k
+both-plain xs ys h k = rw (holds-append 10 xs ys, h, k)
 
 place-plain : (b c : ℕ) → Words b c → holds 10 (place_text b c) ≡ false
 place-plain b c w = both-plain (decimal b) (46 ∷ decimal c) (number-plain b w.0) (number-plain c w.1)

@@ -1,8 +1,7 @@
 -- Where a text is cut into lines, and one line further on in it.
-use Rattle.std.proofs.Common.{◌≡◌, ℕ, suc, ◌+◌, ◌<◌, ◌≤◌, true, false, not, cond, eqb, List, [], ◌∷◌, length, take, drop, Some, None, Option, sym, refl, ap, ◌∙◌, add-one, arith, length-drop}
+use Rattle.std.proofs.Common.{◌≡◌, ℕ, ◌+◌, ◌<◌, ◌≤◌, false, eqb, List, [], ◌∷◌, length, take, drop, Some, None, Option, sym, refl, ap, ◌∙◌, add-one, arith, length-drop}
 use Rattle.std.specs.List.{position, position_or_len}
 use Rattle.std.proofs.lemmas.List.{drop-drop}
-use Rattle.std.proofs.lemmas.Bool.{ne_eqb}
 use Rattle.std.proofs.lemmas.Bool.Decides.{nat_tests}
 use Rattle.text.specs.declared.position.Position.{Position}
 use Rattle.text.specs.Lines.{grown, lines}
@@ -16,20 +15,16 @@ line_end s = position_or_len (λ c. eqb c 10) s
 lines_more : (s : List ℕ) → line_end s < length s → lines s ≡ Some (take (line_end s) s) ∷ lines (drop (line_end s + 1) s)
 lines_more [] h = absurd (omega arith)
 lines_more (c ∷ cs) h =
-    elim (eqb c 10) as (λ t. (cond (not t) (1 + line_end cs) 0 < suc (length cs) → cond t (Some [] ∷ lines cs) (grown c (lines cs)) ≡ Some (take (cond (not t) (1 + line_end cs) 0) (c ∷ cs)) ∷ lines (drop (cond (not t) (1 + line_end cs) 0 + 1) (c ∷ cs)))) [
-      | true ↦ λ _. refl
-      | false ↦ λ lt. ap (grown c) (lines_more cs (omega arith)) ∙ (let e : 1 + line_end cs ≡ line_end cs + 1 = omega arith in simp (e, add-one))
-    ] h
+    let rest = lines_more cs in
+    let next : 1 + line_end cs ≡ line_end cs + 1 = omega arith in
+    grind (arith, nat_tests, add-one)
 
 -- one that has none, and is not empty, is no line
 lines_cut : (c : ℕ) (cs : List ℕ) → length (c ∷ cs) ≤ line_end (c ∷ cs) → lines (c ∷ cs) ≡ None ∷ []
-lines_cut c [] n =
-    elim (eqb c 10) as (λ t. (1 ≤ cond (not t) 1 0 → cond {A = List (Option (List ℕ))} t (Some [] ∷ []) (None ∷ []) ≡ None ∷ [])) [ true ↦ λ l. absurd (omega arith) | false ↦ λ _. refl ] n
+lines_cut c [] n = grind (arith, nat_tests)
 lines_cut c (d ∷ cs) n =
-    elim (eqb c 10) as (λ t. (suc (length (d ∷ cs)) ≤ cond (not t) (1 + line_end (d ∷ cs)) 0 → cond t (Some [] ∷ lines (d ∷ cs)) (grown c (lines (d ∷ cs))) ≡ None ∷ [])) [
-      | true ↦ λ l. absurd (omega arith)
-      | false ↦ λ l. ap (grown c) (lines_cut d cs (omega arith))
-    ] n
+    let rest = lines_cut d cs in
+    grind (arith, nat_tests)
 
 none_first : (s : List ℕ) → length s ≤ line_end s → None ≡ first_line (lines s)
 none_first [] h = refl
@@ -75,8 +70,8 @@ some-grown c (Some l ∷ ls) = refl
 none-lines : (s : List ℕ) → eqb (length s) 0 ≡ no_lines (lines s)
 none-lines [] = refl
 none-lines (c ∷ cs) =
-    ne_eqb (length (c ∷ cs)) 0 (λ z. omega arith)
-    ∙ elim (eqb c 10) as (λ t. (false ≡ no_lines (cond t (Some [] ∷ lines cs) (grown c (lines cs))))) [ true ↦ refl | false ↦ some-grown c (lines cs) ]
+    let more = some-grown c (lines cs) in
+    grind (arith, nat_tests)
 
 pub none_left : (text : List ℕ) (k : ℕ) → k ≤ length text → eqb k (length text) ≡ no_lines (lines (drop k text))
 none_left text k h = (let e = length-drop k text in grind (arith, nat_tests)) ∙ none-lines (drop k text)

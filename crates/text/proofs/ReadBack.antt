@@ -1,9 +1,9 @@
 -- A printed trace is read back, whatever remarks stand between its lines.
-use Rattle.std.proofs.Common.{◌≡◌, ℕ, suc, ◌+◌, ◌≤◌, true, false, eqb, ltb, List, [], ◌∷◌, ◌++◌, map, length, drop, Some, None, Ok, Err, codes, Option, Result, sym, refl, ap, ◌∙◌, subst, arith}
+use Rattle.std.proofs.Common.{◌≡◌, ℕ, suc, ◌+◌, ◌≤◌, true, false, ltb, List, [], ◌∷◌, ◌++◌, map, length, drop, Some, None, Ok, Err, codes, Option, Result, sym, refl, ap, ◌∙◌, subst, arith}
 use Rattle.std.specs.List.{AllByRecursion}
 use Rattle.std.proofs.lemmas.List.{length-drop, length-map}
 use Rattle.std.proofs.lemmas.Bool.Decides.{nat_tests}
-use Rattle.std.proofs.lemmas.Bool.{cond-true, cond-false, or_parts, lt-ltb, le-ltb}
+use Rattle.std.proofs.lemmas.Bool.{cond-true, cond-false, lt-ltb, le-ltb}
 use Rattle.model.specs.declared.refusal.Refusal.{Refusal}
 use Rattle.model.specs.declared.refusal.Refusal.TheVariants.{TextTooLong}
 use Rattle.grammar.specs.declared.kind.Kind.{Kind}
@@ -21,7 +21,7 @@ use Rattle.text.specs.declared.placed_step.PlacedStep.{PlacedStep}
 use Rattle.text.specs.Course.{onward, course}
 use Rattle.text.specs.Faults.{fault_at}
 use Rattle.text.specs.Heading.{number_line, and_next, heading}
-use Rattle.text.specs.Lines.{grown, lines}
+use Rattle.text.specs.Lines.{lines}
 use Rattle.text.specs.Printing.{printed, Remarked, end, line, remark, text_of, numbers, InRange, GivesBack, ReadsBack}
 use Rattle.text.specs.Reading.{opening, course_after, complete, reading}
 use Rattle.text.specs.Telling.{Told, Left, told, left_from, answered, taken}
@@ -34,9 +34,8 @@ PlainLine l = holds 10 l ≡ false
 line-front : (l rest : List ℕ) → PlainLine l → lines (l ++ 10 ∷ rest) ≡ Some l ∷ lines rest
 line-front [] rest h = refl
 line-front (c ∷ l) rest h =
-    let p = or_parts (eqb c 10) (holds 10 l) h in
-    cond-false (eqb c 10) (Some [] ∷ lines (l ++ 10 ∷ rest)) (grown c (lines (l ++ 10 ∷ rest))) p.0
-    ∙ ap (grown c) (line-front l rest p.1)
+    let more = line-front l rest in
+    grind (arith, nat_tests)
 
 lines-back : (ms : List (List ℕ)) → AllByRecursion PlainLine ms → lines (text_of ms) ≡ map Some ms
 lines-back [] h = refl
@@ -59,7 +58,7 @@ Telling l = is_remark (piece l) ≡ false
 
 -- a line that is no remark tells what it says
 told-first : (n : ℕ) (l : Option (List ℕ)) (ls : List (Option (List ℕ))) → is_remark (and_then l piece) ≡ false → told n (l ∷ ls) ≡ record { line = n; says = and_then l piece } ∷ told (n + 1) ls
-told-first n l ls h = cond-false (is_remark (and_then l piece)) (told (n + 1) ls) (record { line = n; says = and_then l piece } ∷ told (n + 1) ls) h
+told-first n l ls h = rw h
 
 told-remarked : {ls ms : List (List ℕ)} → Remarked ls ms → AllByRecursion Telling ls → (n : ℕ) → told n (map Some ms) ≡ told_at (numbers n ms) ls
 told-remarked end h n = refl
@@ -93,7 +92,7 @@ ranged-back low high n l h = grind (arith, nat_tests)
 number-back : (p : List ℕ) (low high x n : ℕ) (ns : List ℕ) (ls : List (List ℕ)) (e : ℕ) → named p ≡ true → (low ≤ x) × (x ≤ high) → high ≤ 4294967295 → number_line p low high (record { telling = told_at (n ∷ ns) (field_line p x ∷ ls); end = e }) ≡ (Ok x, record { telling = told_at ns ls; end = e })
 number-back p low high x n ns ls e h within w =
     taken_back (number_said p low high) x n ns (field_line p x) ls e
-    (ap (ranged low high) (field_back p x h (omega (arith, within))) ∙ ranged-back low high x within.0 within.1)
+    (rw (field_back p x h (omega (arith, within)), ranged-back low high x within.0 within.1))
 
 -- the header from its lines boards=, cells=, entries= and start= on
 abbrev from_start : ℕ → ℕ → ℕ → Left → Result Header Fault × Left
