@@ -1,5 +1,5 @@
 -- A header that is read has its numbers in range.
-use Rattle.std.proofs.Common.{◌≡◌, ℕ, ◌≤◌, ltb, List, [], ◌∷◌, length, Some, None, Ok, Err, codes, Option, Result, refl, ap, subst, arith}
+use Rattle.std.proofs.Common.{◌≡◌, ℕ, ◌≤◌, ltb, List, [], ◌∷◌, length, Some, None, Ok, Err, codes, Option, Result, refl, subst, arith}
 use Rattle.std.proofs.lemmas.Bool.{cond_both}
 use Rattle.std.proofs.lemmas.Bool.Decides.{nat_tests}
 use Rattle.model.specs.declared.refusal.Refusal.{Refusal}
@@ -17,13 +17,13 @@ use Rattle.text.specs.Reading.{header_in}
 use Rattle.text.specs.Telling.{Told, Left, left_from, answered, taking}
 
 -- what is taken for a value is a line that f makes that value of
-answered-by : {X : Type 0} (r : Result X Refusal) (t : Told) (ts : List Told) (e : ℕ) (x : X) → (answered r t ts e).0 ≡ Ok x → r ≡ Ok x
-answered-by (Ok y) t ts e x h = let same : y ≡ x = cc in ap Ok same
-answered-by (Err r) t ts e x h = absurd cc
-
 taken-by : {X : Type 0} (f : Option Piece → Result X Refusal) (ts : List Told) (e : ℕ) (x : X) → (taking f ts e).0 ≡ Ok x → (o : Option Piece) × (f o ≡ Ok x)
 taken-by f [] e x h = absurd cc
-taken-by f (t ∷ ts) e x h = (t.says, answered-by (f t.says) t ts e x h)
+taken-by f (t ∷ ts) e x h = by (f t.says) refl h
+  where
+    by : (r : Result _ Refusal) → f t.says ≡ r → (answered r t ts e).0 ≡ Ok x → (o : Option Piece) × (f o ≡ Ok x)
+    by (Ok y) q g = (t.says, cc)
+    by (Err r) q g = absurd cc
 
 ranged-in : (low high : ℕ) (o : Option ℕ) (n : ℕ) → ranged low high o ≡ Ok n → (low ≤ n) × (n ≤ high)
 ranged-in low high (Some m) n h = grind (arith, nat_tests)

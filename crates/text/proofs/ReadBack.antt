@@ -1,9 +1,9 @@
 -- A printed trace is read back, whatever remarks stand between its lines.
-use Rattle.std.proofs.Common.{◌≡◌, ℕ, suc, ◌+◌, ◌≤◌, true, false, ltb, List, [], ◌∷◌, ◌++◌, map, length, drop, Some, None, Ok, Err, codes, Option, Result, sym, refl, ap, ◌∙◌, subst, arith}
+use Rattle.std.proofs.Common.{◌≡◌, ℕ, ◌+◌, ◌≤◌, true, false, ltb, List, [], ◌∷◌, ◌++◌, map, length, drop, Some, None, Ok, Err, codes, Option, Result, sym, refl, ap, ◌∙◌, subst, arith}
 use Rattle.std.specs.List.{AllByRecursion}
 use Rattle.std.proofs.lemmas.List.{length-drop, length-map}
 use Rattle.std.proofs.lemmas.Bool.Decides.{nat_tests}
-use Rattle.std.proofs.lemmas.Bool.{cond-true, cond-false, lt-ltb, le-ltb}
+use Rattle.std.proofs.lemmas.Bool.{cond-false, le-ltb}
 use Rattle.model.specs.declared.refusal.Refusal.{Refusal}
 use Rattle.model.specs.declared.refusal.Refusal.TheVariants.{TextTooLong}
 use Rattle.grammar.specs.declared.kind.Kind.{Kind}
@@ -13,12 +13,11 @@ use Rattle.grammar.specs.Fields.{wanted, kind_said, ranged, number_said}
 use Rattle.grammar.specs.Numbers.{and_then}
 use Rattle.grammar.specs.Pieces.{Piece, holds, piece, is_remark}
 use Rattle.grammar.specs.Printing.{Writable, kind_line as kind_printed, field_line, step_line}
-use Rattle.grammar.specs.Steps.{room}
 use Rattle.grammar.proofs.Prints.{named, step_back, kind-back, field_back, step-plain, kind-plain, field_plain, step-told, kind-told, field_told}
 use Rattle.text.specs.declared.fault.Fault.{Fault}
 use Rattle.text.specs.declared.header.Header.{Header}
 use Rattle.text.specs.declared.placed_step.PlacedStep.{PlacedStep}
-use Rattle.text.specs.Course.{onward, course}
+use Rattle.text.specs.Course.{course}
 use Rattle.text.specs.Faults.{fault_at}
 use Rattle.text.specs.Heading.{number_line, and_next, heading}
 use Rattle.text.specs.Lines.{lines}
@@ -63,15 +62,14 @@ told-first n l ls h = rw h
 told-remarked : {ls ms : List (List ℕ)} → Remarked ls ms → AllByRecursion Telling ls → (n : ℕ) → told n (map Some ms) ≡ told_at (numbers n ms) ls
 told-remarked end h n = refl
 told-remarked (line {l} {ls} {ms} d) h n =
-    told-first n (Some l) (map Some ms) h.0
-    ∙ ap (λ ts. record { line = n; says = piece l } ∷ ts) (told-remarked d h.1 (n + 1))
-    ∙ ap (λ ns. told_at ns (l ∷ ls)) (sym (cond-false (is_remark (piece l)) (numbers (n + 1) ms) (n ∷ numbers (n + 1) ms) h.0))
+    let more = told-remarked d h.1 (n + 1) in
+    let here = h.0 in
+    rw (here, more)
 told-remarked (remark r p d) h n = told-remarked d h (n + 1)
 
 numbers-length : {ls ms : List (List ℕ)} → Remarked ls ms → AllByRecursion Telling ls → (n : ℕ) → length (numbers n ms) ≡ length ls
 numbers-length end h n = refl
-numbers-length (line {l} {ls} {ms} d) h n =
-    ap length (cond-false (is_remark (piece l)) (numbers (n + 1) ms) (n ∷ numbers (n + 1) ms) h.0) ∙ ap suc (numbers-length d h.1 (n + 1))
+numbers-length (line {l} {ls} {ms} d) h n = let here = h.0 in rw (here, numbers-length d h.1 (n + 1))
 numbers-length (remark r p d) h n = numbers-length d h (n + 1)
 
 -- the header
@@ -151,9 +149,8 @@ course-back k i [] [] w few q = refl
 course-back k i [] (n ∷ ns) w few q = absurd (omega arith)
 course-back k i (s ∷ ss) [] w few q = absurd (omega arith)
 course-back k i (s ∷ ss) (n ∷ ns) w few q =
-    ap (λ o. onward (room i o) n (course k (i + 1) (told_at ns (map step_line ss)))) (step_back k s w.0)
-    ∙ ap (λ r. onward r n (course k (i + 1) (told_at ns (map step_line ss)))) (cond-true (ltb i 2048) (Ok s) (Err TextTooLong) (lt-ltb i 2048 (omega arith)))
-    ∙ ap (onward (Ok s) n) (course-back k (i + 1) ss ns w.1 (omega arith) (omega arith))
+    let more = course-back k (i + 1) ss ns w.1 (omega arith) (omega arith) in
+    rw (step_back k s w.0, more) (grind (arith, nat_tests))
 
 -- the whole
 
