@@ -1,16 +1,15 @@
 -- In a run without a fault the judge finds every read legal.
-use Rattle.std.proofs.Common.{◌≡◌, ℕ, ◌≤◌, true, ◌&&◌, leb, List, [], ◌∷◌, length, Some, None, Ok, Err, Result, sym, refl, ap, ◌∙◌, subst, arith}
+use Rattle.std.proofs.Common.{◌≡◌, ℕ, ◌≤◌, List, [], ◌∷◌, length, None, Ok, Err, Result, sym, refl, ap, subst, arith}
 use lib.ListN.{length-replicate}
 use Rattle.std.proofs.lemmas.List.{length-map, take_all}
-use Rattle.std.proofs.lemmas.Bool.{and_from, cond-true, le-leb}
+use Rattle.std.proofs.lemmas.Bool.Decides.{nat_tests}
 use Rattle.model.specs.declared.answer.Answer.{Answer}
-use Rattle.model.specs.declared.refusal.Refusal.{Refusal}
 use Rattle.model.specs.declared.step.Step.{Step}
 use Rattle.grammar.specs.Steps.{plain_step}
 use Rattle.grammar.specs.declared.kind.Kind.TheVariants.{Run}
 use Rattle.carries.specs.Tables.{lines_of}
 use Rattle.state.specs.Chains.{Chain}
-use Rattle.state.specs.Opening.{quiet, between, refusal_of, opened_by, opened}
+use Rattle.state.specs.Opening.{refusal_of, opened_by, opened}
 use Rattle.state.specs.States.{State}
 use Rattle.state.proofs.Opened.{accepted}
 use Rattle.text.specs.Heading.{starting_words}
@@ -30,17 +29,9 @@ use Rattle.report.proofs.Chained.{chained}
 use Rattle.report.proofs.Likes.{idle-quiet, idle-proper, sound-idle, like-opened}
 use Rattle.report.proofs.Rightly.{none_wrong, all_heard}
 
--- a size in range passes its test
-between_in : (n m : ℕ) → 1 ≤ n → n ≤ m → between n m ≡ true
-between_in n m h k = and_from (leb 1 n) (leb n m) (le-leb 1 n h) (le-leb n m k)
-
 -- sizes in range are accepted
 accepts : (b e : ℕ) (ws : List ℕ) → (1 ≤ b) × (b ≤ 8) → (1 ≤ length ws) × (length ws ≤ 64) → (1 ≤ e) × (e ≤ 8) → refusal_of b e ws (lines_of []) ≡ None
-accepts b e ws boards cells entries =
-    cond-true (between b 8 && (between (length ws) 64 && between e 8)) _ _
-    (and_from (between b 8) (between (length ws) 64 && between e 8) (between_in b 8 boards.0 boards.1)
-    (and_from (between (length ws) 64) (between e 8) (between_in (length ws) 64 cells.0 cells.1) (between_in e 8 entries.0 entries.1)))
-    ∙ cond-true (quiet (lines_of [])) None (Some Refusal.PathNotEmpty) idle-quiet
+accepts b e ws boards cells entries = let idle = idle-quiet in grind (arith, nat_tests)
 
 -- one answer for each step
 pub length-answers : (p : Plain) (xs : List Step) → length (answers p xs) ≡ length xs

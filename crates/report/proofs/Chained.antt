@@ -1,17 +1,14 @@
 -- Every list of steps has the plain answers on a bench over a first-come path.
-use Rattle.std.proofs.Common.{◌≡◌, ℕ, Bool, true, false, cond, ◌&&◌, ltb, List, [], ◌∷◌, refl, ap, ◌∙◌, subst, arith}
-use Rattle.std.proofs.lemmas.Bool.{cond-true, cond-false}
+use Rattle.std.proofs.Common.{◌≡◌, ℕ, Bool, true, false, cond, ◌&&◌, ltb, List, [], ◌∷◌, refl, subst, arith}
 use Rattle.model.specs.declared.answer.Answer.{Answer}
 use Rattle.model.specs.declared.carry.Carry.{Carry}
 use Rattle.model.specs.declared.entry.Entry.{Entry}
 use Rattle.model.specs.declared.refusal.Refusal.{Refusal}
 use Rattle.model.specs.declared.step.Step.{Step}
-use Rattle.carries.specs.Lines.{lane, oldest}
 use Rattle.carries.specs.Tables.{lines_of, located}
 use Rattle.carries.proofs.ByBoard.{landed, lane_of}
 use Rattle.state.specs.Cells.{project}
 use Rattle.state.specs.Chains.{Chain, end, link}
-use Rattle.state.specs.Opening.{quiet}
 use Rattle.state.specs.Runs.{none, sent_from, sent_of, traffic_of}
 use Rattle.state.specs.Sound.{Sound}
 use Rattle.state.specs.States.{State, cells_of}
@@ -48,7 +45,7 @@ land-taken s xs lines places = by (ltb 0 s.boards) refl xs lines places
           answer = Answer.Refused Refusal.NoSuchBoard;
           after = s;
           waiting = xs;
-          takes = (at_place 0, cond-false (ltb 0 s.boards) _ (refuse Refusal.NoSuchBoard s) h);
+          takes = (at_place 0, rw h);
           carries = refl;
         }
     by true h [] lines places =
@@ -58,9 +55,7 @@ land-taken s xs lines places = by (ltb 0 s.boards) refl xs lines places
           waiting = [];
           takes = (
             at_lane 0 0,
-            cond-true (ltb 0 s.boards) _ (refuse Refusal.NoSuchBoard s) h
-                ∙ ap (λ l. land s (oldest l)) (ap (λ ls. lane ls 0 0) lines ∙ lane_of [] 0 0 (omega arith))
-                ∙ cond-true (quiet s.lines) _ _ (ap quiet lines ∙ idle-quiet),
+            rw (h, lines, lane_of [] 0 0 (omega arith), idle-quiet),
           );
           carries = (refl, refl);
         }
@@ -71,8 +66,7 @@ land-taken s xs lines places = by (ltb 0 s.boards) refl xs lines places
           waiting = xs;
           takes = (
             at_lane x.board x.cell,
-            cond-true (ltb 0 s.boards) _ (refuse Refusal.NoSuchBoard s) h
-                ∙ ap (land s) (ap (λ ls. oldest (lane ls x.board x.cell)) lines ∙ (landed (x ∷ xs) 0 x (omega arith) refl refl places).0),
+            rw (h, lines, (landed (x ∷ xs) 0 x (omega arith) refl refl places).0),
           );
           carries = (refl, refl);
         }

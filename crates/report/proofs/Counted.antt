@@ -1,6 +1,7 @@
 -- A cache has as many places taken as there are cells with a valid entry.
-use Rattle.std.proofs.Common.{◌≡◌, ℕ, zero, suc, ◌+◌, ◌<◌, ◌≤◌, Bool, true, false, cond, ◌≢◌, List, [], ◌∷◌, get_or, sym, refl, ap, ◌∙◌, ⊎_elim, arith}
+use Rattle.std.proofs.Common.{◌≡◌, ℕ, zero, suc, ◌+◌, ◌<◌, ◌≤◌, true, false, cond, ◌≢◌, List, [], ◌∷◌, get_or, sym, refl, ap, ◌∙◌, ⊎_elim, arith}
 use Rattle.std.proofs.lemmas.List.Sums.{sum_by-cons}
+use Rattle.std.proofs.lemmas.Bool.Decides.{nat_tests}
 use Rattle.std.proofs.lemmas.Bool.{cases_Bool, cases_eq, cases_lt, cond-true, cond-false, both_ways, eq-eqb}
 use Rattle.model.specs.declared.entry.Entry.{Entry}
 use Rattle.cache.specs.declared.place.Place.{Place}
@@ -15,27 +16,16 @@ use Rattle.report.specs.Plain.{is_valid, valid_below}
 -- only the entries of those cells count
 pub valid_same : (f g : ℕ → Entry) (n : ℕ) → ((c : ℕ) → c < n → f c ≡ g c) → valid_below f n ≡ valid_below g n
 valid_same f g zero same = refl
-valid_same f g (suc n) same =
-    ap (λ e. cond (is_valid e) (suc (valid_below f n)) (valid_below f n)) (same n (omega arith))
-    ∙ ap (λ m. cond (is_valid (g n)) (suc m) m) (valid_same f g n (λ c h. same c (omega arith)))
+valid_same f g (suc n) same = rw (same n (omega arith), valid_same f g n (λ c h. same c (omega arith)))
 
 -- one cell more
 valid-more : (f g : ℕ → Entry) (d n : ℕ) → d < n → is_valid (f d) ≡ false → is_valid (g d) ≡ true → ((c : ℕ) → c ≢ d → g c ≡ f c) → valid_below g n ≡ suc (valid_below f n)
 valid-more f g d zero h old new others = absurd (omega arith)
 valid-more f g d (suc n) h old new others =
     ⊎_elim
-    (λ (e : n ≡ d).
-    cond-true (is_valid (g n)) _ _ (ap (λ c. is_valid (g c)) e ∙ new)
-    ∙ ap suc (valid_same g f n (λ c l. others c (λ z. omega arith)) ∙ sym (cond-false (is_valid (f n)) _ _ (ap (λ c. is_valid (f c)) e ∙ old))))
-    (λ (ne : n ≡ d → ⊥).
-    ap (λ e. cond (is_valid e) (suc (valid_below g n)) (valid_below g n)) (others n ne)
-    ∙ ap (λ m. cond (is_valid (f n)) (suc m) m) (valid-more f g d n (omega arith) old new others)
-    ∙ over (is_valid (f n)) (valid_below f n))
+    (λ (e : n ≡ d). let below = valid_same g f n (λ c l. others c (λ z. omega arith)) in rw (e, old, new) (rw (← e) (ap suc below)))
+    (λ (ne : n ≡ d → ⊥). let below = valid-more f g d n (omega arith) old new others in rw (others n ne, below) (grind (arith, nat_tests)))
     (cases_eq n d)
-  where
-    over : (q : Bool) (m : ℕ) → cond q (suc (suc m)) (suc m) ≡ suc (cond q (suc m) m)
-    over true m = refl
-    over false m = refl
 
 -- an empty cache
 none-valid : (n : ℕ) → valid_below (entry_in []) n ≡ 0
