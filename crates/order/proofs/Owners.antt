@@ -1,12 +1,12 @@
 -- Who owns a cell, as one more event comes; so the computed owner is the owner, and in a history that keeps to ownership all
 -- releases of a cell are in one chain.
-use Rattle.std.proofs.Common.{◌≡◌, ℕ, ◌<◌, ◌≤◌, true, false, eqb, ◌⊎◌, ◌↔◌, List, [], ◌∷◌, Some, None, Option, sym, refl, ap, ◌∙◌, subst, inl, inr, arith}
-use Rattle.std.specs.List.{fold}
-use Rattle.std.proofs.lemmas.Bool.{cases_Bool, eqb-true, eqb-false, cond-true, cond-false, eq-eqb, ne_eqb}
+use Rattle.std.proofs.Common.{◌≡◌, ℕ, zero, suc, ◌<◌, ◌≤◌, true, false, eqb, ◌⊎◌, ◌↔◌, List, [], ◌∷◌, length, get_or, Some, None, Option, sym, refl, ap, ◌∙◌, subst, inl, inr, arith}
+use Rattle.std.specs.List.{HoldsAt}
+use Rattle.std.proofs.lemmas.Bool.{true≢false, cases_Bool, and_parts, and_from, eqb-true, eqb-false, cond-true, cond-false, eq-eqb, ne_eqb}
 use Rattle.model.specs.declared.event.Action.{Action}
 use Rattle.model.specs.declared.event.Event.{Event}
 use Rattle.order.specs.Order.{At, next, more, WriteOf, AcquireOf, ReleaseOf, Latest, Point, initial_release, event, no_release, Before, Known, Owns, Disciplined}
-use Rattle.order.specs.Test.{owner_by, owner_after, owner_from, owner_of, OwnerDecided}
+use Rattle.order.specs.Test.{owner_by, owner_after, owner_from, owner_of, changes_by, changes_owner, OwnerDecided}
 use Rattle.order.proofs.History.{none-not-some, nothing-not-some, some_same, write-not-release, write-not-acquire, acquire-not-release, at-within, at_same, at_old, at_new, at-inv, next_more, by-events, none_old, none-up, none_end, latest-up, latest-old, latest-new, latest-end, latest-inv}
 use Rattle.order.proofs.Growth.{Published, From, known_on, known-new, before-up, before-new, before-acquire, published-inv, published-end, published-new}
 
@@ -73,10 +73,40 @@ module _ (h : List Event) (g : Event) where
 
 -- ── the computed owner ──
 
--- what a chain over the events computes
-pub owner_from-fold : (c : ℕ) (h : List Event) (o : Option ℕ) → owner_from c h o ≡ fold (λ p e. owner_after c e p) o h
-owner_from-fold c [] o = refl
-owner_from-fold c (e ∷ h) o = owner_from-fold c h (owner_after c e o)
+-- an event that changes no owner, and one that does
+kept_by : (c : ℕ) (e : Event) (o : Option ℕ) → changes_owner c e ≡ false → owner_after c e o ≡ o
+kept_by c e o q = go e.action refl (cases_Bool (eqb e.cell c))
+  where
+    go : (a : Action) → e.action ≡ a → (eqb e.cell c ≡ true) ⊎ (eqb e.cell c ≡ false) → owner_after c e o ≡ o
+    go a p (inr f) = cond-false (eqb e.cell c) (owner_by e.action e.board o) o f
+    go (Action.Write w) p (inl t) = cond-true (eqb e.cell c) (owner_by e.action e.board o) o t ∙ ap (λ i. owner_by i e.board o) p
+    go Action.Acquire p (inl t) = absurd (true≢false (sym (and_from (eqb e.cell c) (changes_by e.action) t (ap changes_by p)) ∙ q))
+    go Action.Release p (inl t) = absurd (true≢false (sym (and_from (eqb e.cell c) (changes_by e.action) t (ap changes_by p)) ∙ q))
+
+changed_by : (c : ℕ) (e : Event) (o : Option ℕ) → changes_owner c e ≡ true → owner_after c e o ≡ owner_by e.action e.board None
+changed_by c e o q = cond-true (eqb e.cell c) (owner_by e.action e.board o) o (and_parts (eqb e.cell c) (changes_by e.action) q).0 ∙ go e.action (and_parts (eqb e.cell c) (changes_by e.action) q).1
+  where
+    go : (a : Action) → changes_by a ≡ true → owner_by a e.board o ≡ owner_by a e.board None
+    go (Action.Write w) r = absurd (true≢false (sym r))
+    go Action.Acquire r = refl
+    go Action.Release r = refl
+
+module _ (c : ℕ) where
+  abbrev pub Keeps : Event → Type 0
+  Keeps e = changes_owner c e ≡ false
+
+  pub owner-kept : (h : List Event) (o : Option ℕ) → ((k : ℕ) → k < length h → HoldsAt Keeps h k) → owner_from c h o ≡ o
+  owner-kept [] o keep = refl
+  owner-kept (e ∷ h) o keep = owner-kept h (owner_after c e o) (λ k l. keep (suc k) (omega arith)) ∙ kept_by c e o (keep 0 (omega arith) e)
+
+  abbrev pub Changes : Event → Type 0
+  Changes e = changes_owner c e ≡ true
+
+  -- the last event that changes the owner says who it is
+  pub owner-last : (h : List Event) (o : Option ℕ) (i : ℕ) (d : Event) → i < length h → HoldsAt Changes h i → ((k : ℕ) → i < k → k < length h → HoldsAt Keeps h k) → owner_from c h o ≡ owner_by (get_or h i d).action (get_or h i d).board None
+  owner-last [] o i d l q keep = absurd (omega arith)
+  owner-last (e ∷ h) o zero d l q keep = owner-kept h (owner_after c e o) (λ k m. keep (suc k) (omega arith) (omega arith)) ∙ changed_by c e o (q e)
+  owner-last (e ∷ h) o (suc i) d l q keep = owner-last h (owner_after c e o) i d (omega arith) q (λ k m n. keep (suc k) (omega arith) (omega arith))
 
 pub owner-more : (c : ℕ) (h : List Event) (g : Event) (o : Option ℕ) → owner_from c (more h g) o ≡ owner_after c g (owner_from c h o)
 owner-more c [] g o = refl

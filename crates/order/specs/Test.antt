@@ -150,5 +150,14 @@ owner_from c (e ∷ h) o = owner_from c h (owner_after c e o)
 abbrev pub owner_of : List Event → (c : ℕ) → Option ℕ
 owner_of h c = owner_from c h None
 
+-- whether an event changes who owns the cell c
+abbrev pub changes_by : Action → Bool
+changes_by (Action.Write w) = false
+changes_by Action.Acquire = true
+changes_by Action.Release = true
+
+abbrev pub changes_owner : (c : ℕ) → Event → Bool
+changes_owner c e = e.cell == c && changes_by e.action
+
 unfoldable pub OwnerDecided : Type 0
 OwnerDecided = (h : List Event) (c b : ℕ) → (owner_of h c ≡ Some b) ↔ Owns h c b (next h)
