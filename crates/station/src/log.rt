@@ -23,7 +23,10 @@ fn judge_under(header: Header, log: &[u8]) -> Result<Verdict, Fault>
     let home = PairHome::new(header.cells, header.start);
     let mut trace = Trace::open(Kind::Log, log);
     let mut events = [FREE; MOST_EVENTS];
-    judge_steps(&mut trace, &mut Hearing::new(&mut events, header.boards, &home))
+    judge_steps(
+        &mut trace,
+        &mut Hearing::new(&mut events, header.boards, &home),
+    )
 }
 
 // The verdict on a text, or its first fault as a log; or else what the judge finds, step by step.

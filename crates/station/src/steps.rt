@@ -18,7 +18,8 @@ fn perform(hearing: &mut Hearing<'_, PairHome>, task: Task) -> Result<bool, Refu
     match task {
         Task::Note(event) => hearing.note(event).map(|_| true),
         Task::Check { board, cell, word } => {
-            hearing.legal(board, cell, word).map(|write| write.is_some())
+            let write = hearing.legal(board, cell, word)?;
+            Ok(write.is_some())
         }
         Task::Skip => Ok(true),
     }
@@ -32,9 +33,8 @@ pub(crate) fn judge_steps(
     ensures { verdict_by result ≡ judged_to (end_of (course_of trace.old).fault) hearing.old.boards hearing.old.words hearing.old.history (course_of trace.old).steps }
 {
     while let Some(placed) = trace.next()? {
-        let legal = perform(hearing, task_of(placed.step))
-            .map_err(|refusal| Fault::new(refusal, placed.line))?;
-        if !legal {
+        let legal = perform(hearing, task_of(placed.step));
+        if !legal.map_err(|refusal| Fault::new(refusal, placed.line))? {
             return Ok(Verdict::FalseRead { line: placed.line });
         }
     }

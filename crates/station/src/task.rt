@@ -4,7 +4,8 @@ ghost use Rattle.station.specs.Tasks.{task_of};
 use grammar::trace_step::TraceStep;
 use model::event::Event;
 
-// What the judge has to do at a step of a log: note an event, check the word that was read, or nothing.
+// What the judge has to do at a step of a log: note an event, check the word that was read, or nothing. Nothing is a
+// task too, and no `None`, so that the laws speak of each step's task.
 #[derive(Clone, Copy, PartialEq, Eq, Debug)]
 pub enum Task {
     Note(Event),

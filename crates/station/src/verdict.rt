@@ -3,7 +3,8 @@ ghost use Rattle.station.specs.Verdicts.{verdict_number};
 
 use text::fault::Fault;
 
-// What is found of a log: all its reads are legal; or the first that is not, by its line; or its first fault.
+// What is found of a log: all its reads are legal; or the first that is not, by its line; or its first fault. Three ends
+// that a caller tells apart in one match, where a `Result` of an `Option` would take two.
 #[derive(Clone, Copy, PartialEq, Eq, Debug)]
 pub enum Verdict {
     AllLegal,
@@ -12,7 +13,7 @@ pub enum Verdict {
 }
 
 impl Verdict {
-    // The number that the station firmware knows a verdict by.
+    // The number that the station firmware knows a verdict by. The name says which number; a `From` would not.
     pub fn number(self) -> u64
         ensures { result ≡ verdict_number self }
     {
