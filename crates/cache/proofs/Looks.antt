@@ -1,8 +1,10 @@
 -- Where a cell stands, whichever place is looked at first; and where an entry may be stored.
-use Rattle.std.proofs.Common.{◌≡◌, ℕ, zero, suc, ◌+◌, ◌<◌, true, false, cond, ◌||◌, ltb, List, [], ◌∷◌, length, get_or, drop, set, Some, None, Option, sym, refl, ap, ◌∙◌, ⊎_elim, arith}
-use Rattle.std.proofs.lemmas.List.{at_drop_more}
+use Rattle.std.proofs.Common.{◌≡◌, ℕ, zero, suc, ◌<◌, Bool, true, false, not, cond, ◌||◌, ltb, List, [], ◌∷◌, length, get_or, set, Some, None, Option, sym, refl, ap, ◌∙◌, ⊎_elim, arith}
+use Rattle.std.specs.List.{position}
+use Rattle.std.specs.Option.{MatchOption}
+use Rattle.std.proofs.lemmas.List.Quantifiers.{position-Some}
 use Rattle.std.proofs.lemmas.Bool.{cases_Bool, cond-true, cond-false, or_left, or_right, or_parts, and_parts, both_ways}
-use Rattle.std.proofs.lemmas.List.Sums.{sum_by-cons}
+use Rattle.std.proofs.lemmas.List.Sums.{sum_by-cons, fails_before_first}
 use Rattle.std.proofs.lemmas.Bool.Decides.{nat_tests}
 use Rattle.model.specs.declared.entry.Entry.{Entry}
 use Rattle.cache.specs.Places.{holds, is_taken, entry_of, place_for, entry_in, stands_in, taken_in, replace_in, vacant, store_in, clash, Distinct, Found, Vacant, OfferedAt, Offered}
@@ -18,9 +20,21 @@ all-taken (p ∷ ps) h =
     let e = sum_by-cons (λ x. cond (is_taken x) 1 0) p ps in
     grind (arith, e, first, rest)
 
--- a turn of the look for a cell
-pub stands-more : (ps : List Place) (i c : ℕ) → i < length ps → holds (get_or ps i Empty) c ≡ false → stands_in (drop i ps) c ≡ stands_in (drop (i + 1) ps) c
-stands-more ps i c h e = at_drop_more (λ l. stands_in l c) ps i Empty h ∙ ap (λ b. b || stands_in (drop (i + 1) ps) c) e
+stands-nowhere : (ps : List Place) (c : ℕ) → ((k : ℕ) → k < length ps → holds (get_or ps k Empty) c ≡ false) → stands_in ps c ≡ false
+stands-nowhere [] c h = refl
+stands-nowhere (p ∷ ps) c h = ap (λ b. b || stands_in ps c) (h 0 (omega arith)) ∙ stands-nowhere ps c (λ k l. h (suc k) (omega arith))
+
+-- the first place that passes a test, as `position` answers it
+none-passes : (p : Place → Bool) (ps : List Place) → None ≡ position p ps → (k : ℕ) → k < length ps → p (get_or ps k Empty) ≡ false
+none-passes p ps e k l = fails_before_first p ps k Empty (grind (arith, nat_tests, e, l))
+
+pub found : (ps : List Place) (c : ℕ) (r : Option ℕ) → r ≡ position (λ p. holds p c) ps → Found ps c r
+found ps c None e = stands-nowhere ps c (none-passes (λ p. holds p c) ps e)
+found ps c (Some i) e = let at = position-Some (λ p. holds p c) ps i Empty (sym e) in (at.0, at.1)
+
+pub vacant-found : (ps : List Place) (r : Option ℕ) → r ≡ position (λ p. not (is_taken p)) ps → Vacant ps r
+vacant-found ps None e = all-taken ps (λ k l. let h = none-passes (λ p. not (is_taken p)) ps e k l in grind (arith, h))
+vacant-found ps (Some i) e = let at = position-Some (λ p. not (is_taken p)) ps i Empty (sym e) in grind (arith, nat_tests, at.0, at.1)
 
 pub invalid : (ps : List Place) (c : ℕ) → stands_in ps c ≡ false → entry_in ps c ≡ Entry.Invalid
 invalid [] c e = refl
@@ -83,6 +97,10 @@ offered-vacant ps c (Some i) e v =
   where
     ltb-in : (n i : ℕ) → ltb i n ≡ true → i < n
     ltb-in n i e = grind (arith, nat_tests)
+
+pub offered : (ps : List Place) (c : ℕ) (o r : Option ℕ) → Found ps c o → MatchOption o (Vacant ps r) (λ i. r ≡ Some i) → Offered ps c r
+offered ps c None r f v = offered-vacant ps c r f v
+offered ps c (Some i) r f e = rw e (offered-found ps c i f)
 
 -- storing where it is offered
 

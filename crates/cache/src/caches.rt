@@ -5,7 +5,8 @@ ghost use Rattle.cache.specs.declared.place.Place.TheVariants.{Empty};
 
 use super::cache::Cache;
 
-// The caches of the eight boards that a bench can have.
+// The caches of the eight boards that a bench can have. Eight named fields and no array: the form that the project
+// prescribes.
 #[derive(Clone, Copy)]
 pub struct Caches {
     c0: Cache,

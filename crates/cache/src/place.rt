@@ -3,7 +3,8 @@ ghost use Rattle.cache.specs.Places.{entry_of, holds, is_taken, place_for};
 
 use model::entry::Entry;
 
-// One place of a cache: empty, or the word of one cell, clean or dirty.
+// One place of a cache: empty, or the word of one cell, clean or dirty. No `Option` of a pair with a flag: code that
+// has a word is told at once which of the two it is.
 #[derive(Clone, Copy, PartialEq, Eq, Debug)]
 pub enum Place {
     Empty,
@@ -12,7 +13,7 @@ pub enum Place {
 }
 
 impl Place {
-    // The place of a cell with that entry.
+    // The place of a cell with that entry. No `From`, here and back: an entry has no cell.
     pub fn new(cell: u32, entry: Entry) -> Place
         ensures { result ≡ place_for cell entry }
     {
@@ -38,17 +39,13 @@ impl Place {
     {
         match self {
             Place::Empty => false,
-            Place::Clean { cell: held, .. } => held == cell,
-            Place::Dirty { cell: held, .. } => held == cell,
+            Place::Clean { cell: held, .. } | Place::Dirty { cell: held, .. } => held == cell,
         }
     }
 
     pub fn is_taken(self) -> bool
         ensures { result ≡ is_taken self }
     {
-        match self {
-            Place::Empty => false,
-            _ => true,
-        }
+        self != Place::Empty
     }
 }

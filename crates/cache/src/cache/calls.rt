@@ -71,10 +71,7 @@ impl Cache {
     fn place_for(&self, cell: u32) -> Option<usize>
         ensures { Offered (table_of self.now) cell result }
     {
-        match self.places.find(cell) {
-            Some(i) => Some(i),
-            None => self.places.vacant(),
-        }
+        self.places.find(cell).or_else(|| self.places.vacant())
     }
 
     fn with(self, at: usize, cell: u32, entry: Entry) -> Cache

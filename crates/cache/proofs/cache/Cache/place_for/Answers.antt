@@ -1,8 +1,6 @@
-use Rattle.cache.proofs.Looks.{offered-found, offered-vacant}
+use Rattle.std.proofs.Common.{rules}
+use Rattle.cache.proofs.Looks.{offered}
 use Rattle.cache.proofs.cache.Cache.place_for.Goals as goal
 
-pub returns-in-Some : goal.returns-in-Some
-returns-in-Some c = offered-found c.args.self.now.places.at c.args.cell c.in-Some.i c.in-Some.ensures
-
-pub returns-in-None : goal.returns-in-None
-returns-in-None c = offered-vacant c.args.self.now.places.at c.args.cell c.vacant.result c.in-None.ensures c.vacant.ensures
+pub returns : goal.returns
+returns c = offered c.args.self.now.places.at c.args.cell c.find.result c.or_else.result c.find.ensures (search rules)
