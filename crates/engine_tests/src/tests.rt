@@ -16,6 +16,15 @@ fn pairs(boards: u32, entries: u32, cells: u32) -> Bench<PairHome, FirstCome> {
     Bench::open(boards, entries, PairHome::new(cells, 0), FirstCome::new())
 }
 
+// A carry of the word 1 to cell 0.
+fn one_from(board: u32) -> Carry {
+    Carry {
+        board,
+        cell: 0,
+        word: 1,
+    }
+}
+
 fn no<T>(refusal: Refusal) -> Result<T, Refusal> {
     Err(refusal)
 }
@@ -53,28 +62,14 @@ fn opening_checks_sizes(rt: HostRuntime) {
 #[test]
 fn opening_wants_an_empty_path(rt: HostRuntime) {
     let mut path = FirstCome::new();
-    assert_eq!(rt;
-        path.start(Carry {
-            board: 7,
-            cell: 0,
-            word: 1,
-        }),
-        Ok(())
-    );
+    assert_eq!(rt; path.start(one_from(7)), Ok(()));
     refused(
         &rt,
         Bench::open(1, 1, PairHome::new(1, 0), path),
         Refusal::PathNotEmpty,
     );
     let mut path = FirstCome::new();
-    assert_eq!(rt;
-        path.start(Carry {
-            board: 7,
-            cell: 0,
-            word: 1,
-        }),
-        Ok(())
-    );
+    assert_eq!(rt; path.start(one_from(7)), Ok(()));
     refused(
         &rt,
         Bench::open(0, 1, PairHome::new(1, 0), path),
@@ -118,14 +113,7 @@ fn a_read_finds_the_own_write_in_flight(rt: HostRuntime) {
     assert_eq!(rt; bench.home().read(0), Ok(0));
     assert_eq!(rt; bench.read(0, 0), Ok(1));
     assert_eq!(rt; bench.read(1, 0), Ok(0));
-    assert_eq!(rt;
-        bench.land(),
-        Ok(Some(Carry {
-            board: 0,
-            cell: 0,
-            word: 1,
-        }))
-    );
+    assert_eq!(rt; bench.land(), Ok(Some(one_from(0))));
     assert_eq!(rt; bench.home().read(0), Ok(1));
     assert_eq!(rt; bench.read(1, 0), Ok(0));
     assert_eq!(rt; bench.eject(1, 0), Ok(()));
@@ -145,14 +133,7 @@ fn a_release_waits_for_the_memory(rt: HostRuntime) {
     assert_eq!(rt; bench.write_back(0, 0), Ok(()));
     assert_eq!(rt; bench.write_back(0, 0), no(Refusal::NotDirty));
     assert_eq!(rt; bench.release(0, 0), no(Refusal::UnsettledWrite));
-    assert_eq!(rt;
-        bench.land(),
-        Ok(Some(Carry {
-            board: 0,
-            cell: 0,
-            word: 1,
-        }))
-    );
+    assert_eq!(rt; bench.land(), Ok(Some(one_from(0))));
     assert_eq!(rt; bench.release(0, 0), Ok(()));
     assert_eq!(rt; bench.acquire(1, 0), Ok(()));
 }
@@ -164,14 +145,7 @@ fn an_acquire_empties_what_is_clean(rt: HostRuntime) {
     assert_eq!(rt; bench.read(1, 0), Ok(0));
     assert_eq!(rt; bench.write(0, 0, 1), Ok(()));
     assert_eq!(rt; bench.eject(0, 0), Ok(()));
-    assert_eq!(rt;
-        bench.land(),
-        Ok(Some(Carry {
-            board: 0,
-            cell: 0,
-            word: 1,
-        }))
-    );
+    assert_eq!(rt; bench.land(), Ok(Some(one_from(0))));
     assert_eq!(rt; bench.read(1, 0), Ok(0));
     assert_eq!(rt; bench.acquire(1, 0), Ok(()));
     assert_eq!(rt; bench.write_back(1, 0), no(Refusal::NotCached));
@@ -188,24 +162,15 @@ fn fills_a_line<H: Home + Drop, P: Path + Drop>(
     mut bench: Bench<H, P>,
     long: u32,
 ) {
-    for word in 1..9 {
-        if word <= long {
-            assert_eq!(rt; bench.write(0, 0, word), Ok(()));
-            assert_eq!(rt; bench.write_back(0, 0), Ok(()));
-        }
+    for word in 1..=long {
+        assert_eq!(rt; bench.write(0, 0, word), Ok(()));
+        assert_eq!(rt; bench.write_back(0, 0), Ok(()));
     }
     assert_eq!(rt; bench.write(0, 0, 99), Ok(()));
     assert_eq!(rt; bench.write_back(0, 0), no(Refusal::LineFull));
     assert_eq!(rt; bench.eject(0, 0), no(Refusal::LineFull));
     assert_eq!(rt; bench.read(0, 0), Ok(99));
-    assert_eq!(rt;
-        bench.land(),
-        Ok(Some(Carry {
-            board: 0,
-            cell: 0,
-            word: 1,
-        }))
-    );
+    assert_eq!(rt; bench.land(), Ok(Some(one_from(0))));
     assert_eq!(rt; bench.eject(0, 0), Ok(()));
     assert_eq!(rt; bench.read(0, 0), Ok(99));
 }
@@ -239,10 +204,13 @@ fn a_run_answers_each_step_and_leaves_the_rest(rt: HostRuntime) {
     let mut bench = pairs(1, 1, 1);
     let mut answers = [Answer::NothingWaits; 4];
     assert_eq!(rt; bench.run(&STEPS, &mut answers), Ok(()));
-    assert_eq!(rt; answers[0], Answer::Done);
-    assert_eq!(rt; answers[1], Answer::Refused(Refusal::NotOwner));
-    assert_eq!(rt; answers[2], Answer::Word(5));
-    assert_eq!(rt; answers[3], Answer::NothingWaits);
+    let expected = [
+        Answer::Done,
+        Answer::Refused(Refusal::NotOwner),
+        Answer::Word(5),
+        Answer::NothingWaits,
+    ];
+    assert_eq!(rt; answers, expected);
 }
 
 #[test]
@@ -253,8 +221,7 @@ fn a_run_wants_room_for_its_answers(rt: HostRuntime) {
         bench.run(&STEPS, &mut answers),
         no(Refusal::AnswersTooShort)
     );
-    assert_eq!(rt; answers[0], Answer::NothingWaits);
-    assert_eq!(rt; answers[1], Answer::NothingWaits);
+    assert_eq!(rt; answers, [Answer::NothingWaits; 2]);
     assert_eq!(rt; bench.read(0, 0), Ok(0));
     assert_eq!(rt; bench.run(&[], &mut []), Ok(()));
 }
