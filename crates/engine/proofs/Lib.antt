@@ -1,3 +1,2 @@
-pub mod Carried
 pub mod Sounds
 pub mod Ways

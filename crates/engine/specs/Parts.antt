@@ -3,13 +3,24 @@ use Rattle.std.specs.Prelude.{◌≡◌, ℕ, cond, Some, Ok, Err, Result, nat_l
 use Rattle.model.specs.declared.answer.Answer.{Answer}
 use Rattle.model.specs.declared.entry.Entry.{Entry}
 use Rattle.model.specs.declared.refusal.Refusal.{Refusal}
-use Rattle.state.specs.States.{State, cells_of, with_entry}
+use Rattle.cache.specs.Places.{entry_in}
+use Rattle.state.specs.States.{State, cells_of, cache_of, with_entry}
 use Rattle.state.specs.Steps.{Choice, Outcome, new_entry}
-use Rattle.engine.specs.Benches.{answered}
+use Rattle.engine.specs.declared.bench.access.Access.{Access}
+use Rattle.model.specs.Answers.{answered}
 
 -- the board and the cell are those of the bench
 abbrev pub checks : State → ℕ → ℕ → Result (Unit {0}) Refusal
 checks s b c = cond (nat_lt b s.boards) (cond (nat_lt c (cells_of s)) (Ok tt) (Err Refusal.NoSuchCell)) (Err Refusal.NoSuchBoard)
+
+-- what is checked is the board and the cell that were named
+abbrev pub Checked : State → ℕ → ℕ → Result Access Refusal → Type 0
+Checked s b c (Ok at) = (at.board ≡ b) × (at.cell ≡ c) × (checks s b c ≡ Ok tt)
+Checked s b c (Err e) = checks s b c ≡ Err e
+
+-- what the board's cache has of the cell
+abbrev pub entry_at : State → Access → Entry
+entry_at s at = entry_in (cache_of s at.board) at.cell
 
 -- a new entry is refused or takes some empty place, whatever the step then answers
 abbrev pub Added : State → ℕ → ℕ → Entry → Result (Unit {0}) Refusal → State → Type 0
@@ -24,8 +35,3 @@ abbrev pub dropped : State → ℕ → ℕ → Entry → State
 dropped s b c Entry.Invalid = s
 dropped s b c (Entry.Clean w) = with_entry s b c Entry.Invalid
 dropped s b c (Entry.Dirty w) = s
-
--- the word, where a new entry was not refused
-abbrev pub given : ℕ → Result (Unit {0}) Refusal → Result ℕ Refusal
-given w (Ok u) = Ok w
-given w (Err e) = Err e

@@ -17,16 +17,13 @@ impl Owners {
     pub(crate) fn of(&self, cell: u32) -> Option<u32>
         ensures { result ≡ slice_index_or self.now.of cell None }
     {
-        if cell < 64 {
-            self.of[cell as usize]
-        } else {
-            None
-        }
+        self.of.get(cell as usize).copied().flatten()
     }
 
     pub(crate) fn put(&mut self, cell: u32, owner: Option<u32>)
         ensures { self.new.of ≡ slice_set self.old.of cell owner }
     {
+        // by index and not by `get_mut`, after which a proof knows no element of the table
         if cell < 64 {
             self.of[cell as usize] = owner;
         }

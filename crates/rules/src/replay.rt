@@ -1,7 +1,6 @@
 ghost use Rattle.std.specs.Prelude.{◌≡◌, []};
 ghost use Rattle.state.specs.Opening.{opened};
 ghost use Rattle.state.specs.Runs.{Ran, Went};
-ghost use Rattle.engine.specs.Benches.{state_of};
 ghost use Rattle.rules.specs.Calls.{ran_onto};
 ghost use Rattle.rules.specs.Cases.{RulesOfBench};
 ghost use Rattle.rules.specs.Rules.{KeepsModel};
@@ -15,18 +14,19 @@ use path::path::Path;
 
 // A bench after a run, and whether the run was refused.
 #[derive(Drop)]
-pub struct Replayed<H, P> {
+pub struct Replayed<H: Home, P: Path> {
     pub bench: Bench<H, P>,
     pub result: Result<(), Refusal>,
 }
 
+// Runs the steps on a bench.
 fn run_on<H: Home, P: Path>(
     mut bench: Bench<H, P>,
     steps: &[Step],
     answers: &mut [Answer],
 ) -> Replayed<H, P>
-    ensures run { Ran (state_of H.Source.words P.Path.lines P.Path.LENGTH bench) steps.now answers.old result.result answers.new (state_of H.Source.words P.Path.lines P.Path.LENGTH result.bench) }
-    ensures path { Went P.Path.starts P.Path.lands (state_of H.Source.words P.Path.lines P.Path.LENGTH bench) bench.path steps.now result.result answers.new (state_of H.Source.words P.Path.lines P.Path.LENGTH result.bench) result.bench.path }
+    ensures run { Ran bench.state steps.now answers.old result.result answers.new result.bench.state }
+    ensures path { Went P.Path.starts P.Path.lands bench.state bench.path steps.now result.result answers.new result.bench.state result.bench.path }
 {
     let result = bench.run(steps, answers);
     Replayed { bench, result }
@@ -42,8 +42,8 @@ pub fn replay<H: Home, P: Path>(
     steps: &[Step],
     answers: &mut [Answer],
 ) -> Replayed<H, P>
-    ensures run { Ran (opened boards entries (H.Source.words home) (P.Path.lines path) P.Path.LENGTH) steps.now answers.old result.result answers.new (state_of H.Source.words P.Path.lines P.Path.LENGTH result.bench) }
-    ensures path { Went P.Path.starts P.Path.lands (opened boards entries (H.Source.words home) (P.Path.lines path) P.Path.LENGTH) path steps.now result.result answers.new (state_of H.Source.words P.Path.lines P.Path.LENGTH result.bench) result.bench.path }
+    ensures run { Ran (opened boards entries (H.Source.words home) (P.Path.lines path) P.Path.LENGTH) steps.now answers.old result.result answers.new result.bench.state }
+    ensures path { Went P.Path.starts P.Path.lands (opened boards entries (H.Source.words home) (P.Path.lines path) P.Path.LENGTH) path steps.now result.result answers.new result.bench.state result.bench.path }
     ensures model { KeepsModel (opened boards entries (H.Source.words home) (P.Path.lines path) P.Path.LENGTH) (ran_onto result.result [] steps.now answers.new) }
     ensures rules { RulesOfBench }
 {

@@ -1,195 +1,115 @@
-ghost use Rattle.std.specs.Prelude.{◌≡◌, false, is_ok, if◌then◌else◌, Some, Ok, nat_eq};
-ghost use Rattle.model.specs.declared.entry.Entry.TheVariants.{Clean, Dirty};
-ghost use Rattle.model.specs.declared.refusal.Refusal.TheVariants.{OwnedAlready, OwnedByAnother};
-ghost use Rattle.cache.specs.Places.{entry_in};
+ghost use Rattle.std.specs.Prelude.{◌≡◌, false, is_ok, Some};
 ghost use Rattle.state.specs.Runs.{Carries, sent_from};
-ghost use Rattle.state.specs.States.{cache_of, owner_of};
-ghost use Rattle.state.specs.Steps.{is_owner, carry_of, read, write, acquire, release, write_back, eject};
-ghost use Rattle.engine.specs.Benches.{state_of, done_answer, word_answer};
-ghost use Rattle.engine.specs.Parts.{checks, dropped, Added, TakesBy};
+ghost use Rattle.state.specs.States.{owner_of};
+ghost use Rattle.state.specs.Steps.{read, write, acquire, release, write_back, eject};
+ghost use Rattle.model.specs.Answers.{done_answer, word_answer};
+ghost use Rattle.engine.specs.Parts.{entry_at, dropped, TakesBy};
 
 use super::Bench;
-use home::source::{Home, Source};
+use super::access::Access;
+use home::source::Home;
 use model::entry::Entry;
 use model::refusal::Refusal;
 use path::path::Path;
 
-// The steps on a board and a cell that the bench has.
+// What each step does once its board and its cell are checked.
 impl<H: Home, P: Path> Bench<H, P> {
-    pub(crate) fn read_entry(&mut self, board: u32, cell: u32, entry: Entry) -> Result<u32, Refusal>
-        requires { checks (state_of H.Source.words P.Path.lines P.Path.LENGTH self.old) board cell ≡ Ok tt }
-        ensures step { TakesBy (λ k. read k (state_of H.Source.words P.Path.lines P.Path.LENGTH self.old) board cell entry) (word_answer result) (state_of H.Source.words P.Path.lines P.Path.LENGTH self.new) }
+    pub(crate) fn read_at(&mut self, at: Access) -> Result<u32, Refusal>
+        ensures step { TakesBy (λ k. read k self.old.state at.board at.cell (entry_at self.old.state at)) (word_answer result) self.new.state }
         ensures path { self.new.path ≡ self.old.path }
         ensures refused { is_ok result ≡ false → self.new ≡ self.old }
     {
-        match entry {
-            Entry::Clean(word) => Ok(word),
-            Entry::Dirty(word) => Ok(word),
+        match self.entry(at) {
+            Entry::Clean(word) | Entry::Dirty(word) => Ok(word),
             Entry::Invalid => {
-                let word = self.fetch(board, cell);
-                match self.add_clean(board, cell, word) {
-                    Ok(()) => Ok(word),
-                    Err(refusal) => Err(refusal),
-                }
+                let word = self.fetch(at);
+                self.add(at, Entry::Clean(word))?;
+                Ok(word)
             }
         }
     }
 
-    // A word that was fetched is cached as the memory has it or will have it.
-    fn add_clean(&mut self, board: u32, cell: u32, word: u32) -> Result<(), Refusal>
-        requires { checks (state_of H.Source.words P.Path.lines P.Path.LENGTH self.old) board cell ≡ Ok tt }
-        ensures added { Added (state_of H.Source.words P.Path.lines P.Path.LENGTH self.old) board cell (Clean word) result (state_of H.Source.words P.Path.lines P.Path.LENGTH self.new) }
+    pub(crate) fn write_at(&mut self, at: Access, word: u32) -> Result<(), Refusal>
+        ensures step { TakesBy (λ k. write k self.old.state at.board at.cell word (entry_at self.old.state at)) (done_answer result) self.new.state }
         ensures path { self.new.path ≡ self.old.path }
         ensures refused { is_ok result ≡ false → self.new ≡ self.old }
     {
-        self.add(board, cell, Entry::Clean(word))
-    }
-
-    pub(crate) fn write_entry(
-        &mut self,
-        board: u32,
-        cell: u32,
-        word: u32,
-        entry: Entry,
-    ) -> Result<(), Refusal>
-        requires { checks (state_of H.Source.words P.Path.lines P.Path.LENGTH self.old) board cell ≡ Ok tt }
-        ensures step { TakesBy (λ k. write k (state_of H.Source.words P.Path.lines P.Path.LENGTH self.old) board cell word entry) (done_answer result) (state_of H.Source.words P.Path.lines P.Path.LENGTH self.new) }
-        ensures path { self.new.path ≡ self.old.path }
-        ensures refused { is_ok result ≡ false → self.new ≡ self.old }
-    {
-        match entry {
-            Entry::Invalid => self.add_dirty(board, cell, word),
-            _ => {
-                self.set_entry(board, cell, Entry::Dirty(word));
+        match self.entry(at) {
+            Entry::Invalid => self.add(at, Entry::Dirty(word)),
+            Entry::Clean(_) | Entry::Dirty(_) => {
+                self.set_entry(at, Entry::Dirty(word));
                 Ok(())
             }
         }
     }
 
-    // A word that was written is in no other place yet.
-    fn add_dirty(&mut self, board: u32, cell: u32, word: u32) -> Result<(), Refusal>
-        requires { checks (state_of H.Source.words P.Path.lines P.Path.LENGTH self.old) board cell ≡ Ok tt }
-        ensures added { Added (state_of H.Source.words P.Path.lines P.Path.LENGTH self.old) board cell (Dirty word) result (state_of H.Source.words P.Path.lines P.Path.LENGTH self.new) }
+    pub(crate) fn acquire_at(&mut self, at: Access) -> Result<(), Refusal>
+        ensures step { acquire self.old.state at.board at.cell (owner_of self.old.state at.cell) ≡ Some (done_answer result, self.new.state) }
         ensures path { self.new.path ≡ self.old.path }
         ensures refused { is_ok result ≡ false → self.new ≡ self.old }
     {
-        self.add(board, cell, Entry::Dirty(word))
-    }
-
-    pub(crate) fn acquire_owned(
-        &mut self,
-        board: u32,
-        cell: u32,
-        owner: Option<u32>,
-    ) -> Result<(), Refusal>
-        ensures step { acquire (state_of H.Source.words P.Path.lines P.Path.LENGTH self.old) board cell owner ≡ Some (done_answer result, (state_of H.Source.words P.Path.lines P.Path.LENGTH self.new)) }
-        ensures path { self.new.path ≡ self.old.path }
-        ensures refused { is_ok result ≡ false → self.new ≡ self.old }
-    {
-        match owner {
-            Some(owner) => Err(held_by(owner, board)),
+        match self.owner(at.cell) {
+            Some(owner) if owner == at.board => Err(Refusal::OwnedAlready),
+            Some(_) => Err(Refusal::OwnedByAnother),
             None => {
-                self.drop_clean(board, cell);
-                self.set_owner(cell, Some(board));
+                self.drop_clean(at);
+                self.set_owner(at.cell, Some(at.board));
                 Ok(())
             }
         }
     }
 
     // A clean entry is emptied; a dirty one stays, since the memory lacks its word.
-    fn drop_clean(&mut self, board: u32, cell: u32)
-        ensures state { state_of H.Source.words P.Path.lines P.Path.LENGTH self.new ≡ dropped (state_of H.Source.words P.Path.lines P.Path.LENGTH self.old) board cell (entry_in (cache_of (state_of H.Source.words P.Path.lines P.Path.LENGTH self.old) board) cell) }
+    fn drop_clean(&mut self, at: Access)
+        ensures state { self.new.state ≡ dropped self.old.state at.board at.cell (entry_at self.old.state at) }
         ensures path { self.new.path ≡ self.old.path }
     {
-        match self.entry(board, cell) {
-            Entry::Clean(_) => self.set_entry(board, cell, Entry::Invalid),
-            Entry::Dirty(_) => {}
-            Entry::Invalid => {}
+        if let Entry::Clean(_) = self.entry(at) {
+            self.set_entry(at, Entry::Invalid);
         }
     }
 
-    fn owns(&self, board: u32, cell: u32) -> bool
-        ensures { result ≡ is_owner (owner_of (state_of H.Source.words P.Path.lines P.Path.LENGTH self.now) cell) board }
-    {
-        match self.owner(cell) {
-            Some(owner) => owner == board,
-            None => false,
-        }
-    }
-
-    pub(crate) fn release_cell(&mut self, board: u32, cell: u32) -> Result<(), Refusal>
-        requires { checks (state_of H.Source.words P.Path.lines P.Path.LENGTH self.old) board cell ≡ Ok tt }
-        ensures step { release (state_of H.Source.words P.Path.lines P.Path.LENGTH self.old) board cell ≡ Some (done_answer result, (state_of H.Source.words P.Path.lines P.Path.LENGTH self.new)) }
+    pub(crate) fn release_at(&mut self, at: Access) -> Result<(), Refusal>
+        ensures step { release self.old.state at.board at.cell ≡ Some (done_answer result, self.new.state) }
         ensures path { self.new.path ≡ self.old.path }
         ensures refused { is_ok result ≡ false → self.new ≡ self.old }
     {
-        if !self.owns(board, cell) {
+        if self.owner(at.cell) != Some(at.board) {
             return Err(Refusal::NotOwner);
         }
-        if self.unsettled(board, cell) {
+        if self.unsettled(at) {
             return Err(Refusal::UnsettledWrite);
         }
-        self.set_owner(cell, None);
+        self.set_owner(at.cell, None);
         Ok(())
     }
 
-    pub(crate) fn write_back_entry(
-        &mut self,
-        board: u32,
-        cell: u32,
-        entry: Entry,
-    ) -> Result<(), Refusal>
-        ensures step { write_back (state_of H.Source.words P.Path.lines P.Path.LENGTH self.old) board cell entry ≡ Some (done_answer result, (state_of H.Source.words P.Path.lines P.Path.LENGTH self.new)) }
-        ensures path { Carries P.Path.starts P.Path.lands self.old.path (sent_from board cell entry) self.new.path }
+    pub(crate) fn write_back_at(&mut self, at: Access) -> Result<(), Refusal>
+        ensures step { write_back self.old.state at.board at.cell (entry_at self.old.state at) ≡ Some (done_answer result, self.new.state) }
+        ensures path { Carries P.Path.starts P.Path.lands self.old.path (sent_from at.board at.cell (entry_at self.old.state at)) self.new.path }
         ensures refused { is_ok result ≡ false → self.new ≡ self.old }
     {
-        match entry {
+        match self.entry(at) {
             Entry::Invalid => Err(Refusal::NotCached),
             Entry::Clean(_) => Err(Refusal::NotDirty),
-            Entry::Dirty(word) => self.write_back_dirty(board, cell, word),
+            // the word is on its way, so the entry is clean from here on
+            Entry::Dirty(word) => self.send(at, word, Entry::Clean(word)),
         }
     }
 
-    // The word is on its way, so the entry is clean from here on.
-    fn write_back_dirty(&mut self, board: u32, cell: u32, word: u32) -> Result<(), Refusal>
-        ensures step { write_back (state_of H.Source.words P.Path.lines P.Path.LENGTH self.old) board cell (Dirty word) ≡ Some (done_answer result, (state_of H.Source.words P.Path.lines P.Path.LENGTH self.new)) }
-        ensures path { P.Path.starts self.old.path (carry_of board cell word) self.new.path }
+    pub(crate) fn eject_at(&mut self, at: Access) -> Result<(), Refusal>
+        ensures step { eject self.old.state at.board at.cell (entry_at self.old.state at) ≡ Some (done_answer result, self.new.state) }
+        ensures path { Carries P.Path.starts P.Path.lands self.old.path (sent_from at.board at.cell (entry_at self.old.state at)) self.new.path }
         ensures refused { is_ok result ≡ false → self.new ≡ self.old }
     {
-        self.send(board, cell, word, Entry::Clean(word))
-    }
-
-    pub(crate) fn eject_entry(&mut self, board: u32, cell: u32, entry: Entry) -> Result<(), Refusal>
-        ensures step { eject (state_of H.Source.words P.Path.lines P.Path.LENGTH self.old) board cell entry ≡ Some (done_answer result, (state_of H.Source.words P.Path.lines P.Path.LENGTH self.new)) }
-        ensures path { Carries P.Path.starts P.Path.lands self.old.path (sent_from board cell entry) self.new.path }
-        ensures refused { is_ok result ≡ false → self.new ≡ self.old }
-    {
-        match entry {
+        match self.entry(at) {
             Entry::Invalid => Err(Refusal::NotCached),
             Entry::Clean(_) => {
-                self.set_entry(board, cell, Entry::Invalid);
+                self.set_entry(at, Entry::Invalid);
                 Ok(())
             }
-            Entry::Dirty(word) => self.eject_dirty(board, cell, word),
+            // the memory lacks the word, so it is sent before the place is empty
+            Entry::Dirty(word) => self.send(at, word, Entry::Invalid),
         }
-    }
-
-    // The memory lacks the word, so it is sent before the place is empty.
-    fn eject_dirty(&mut self, board: u32, cell: u32, word: u32) -> Result<(), Refusal>
-        ensures step { eject (state_of H.Source.words P.Path.lines P.Path.LENGTH self.old) board cell (Dirty word) ≡ Some (done_answer result, (state_of H.Source.words P.Path.lines P.Path.LENGTH self.new)) }
-        ensures path { P.Path.starts self.old.path (carry_of board cell word) self.new.path }
-        ensures refused { is_ok result ≡ false → self.new ≡ self.old }
-    {
-        self.send(board, cell, word, Entry::Invalid)
-    }
-}
-
-fn held_by(owner: u32, board: u32) -> Refusal
-    ensures { result ≡ (if nat_eq owner board then OwnedAlready else OwnedByAnother) }
-{
-    if owner == board {
-        Refusal::OwnedAlready
-    } else {
-        Refusal::OwnedByAnother
     }
 }

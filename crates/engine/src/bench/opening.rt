@@ -1,7 +1,7 @@
 ghost use Rattle.std.specs.Prelude.{◌≡◌, ◌≤◌, length, nat_lt};
 ghost use Rattle.carries.specs.Lines.{line};
 ghost use Rattle.state.specs.Opening.{between, quiet, refusal_of, fresh, opened};
-ghost use Rattle.engine.specs.Benches.{state_of};
+ghost use Rattle.engine.specs.Seen.{IsWhole};
 
 use super::Bench;
 use crate::owners::Owners;
@@ -15,7 +15,7 @@ impl<H: Home, P: Path> Bench<H, P> {
     // path. A refused one has no boards, so that every step of it is refused.
     pub fn open(boards: u32, entries: u32, home: H, path: P) -> Bench<H, P>
         ensures path { result.path ≡ path }
-        ensures state { state_of H.Source.words P.Path.lines P.Path.LENGTH result ≡ opened boards entries (H.Source.words home) (P.Path.lines path) P.Path.LENGTH }
+        ensures state { result.state ≡ opened boards entries (H.Source.words home) (P.Path.lines path) P.Path.LENGTH }
     {
         match refusal_of(boards, entries, &home, &path) {
             None => Bench::fresh(None, boards, entries, home, path),
@@ -27,16 +27,14 @@ impl<H: Home, P: Path> Bench<H, P> {
         requires few { boards ≤ 8 }
         requires small { entries ≤ 8 }
         ensures path { result.path ≡ path }
-        ensures state { state_of H.Source.words P.Path.lines P.Path.LENGTH result ≡ fresh refusal boards entries (H.Source.words home) (P.Path.lines path) P.Path.LENGTH }
+        ensures state { result.state ≡ fresh refusal boards entries (H.Source.words home) (P.Path.lines path) P.Path.LENGTH }
     {
-        let caches = Caches::new();
-        let owners = Owners::new();
         Bench {
             refusal,
             boards,
             entries,
-            caches,
-            owners,
+            caches: Caches::new(),
+            owners: Owners::new(),
             home,
             path,
         }
@@ -44,14 +42,15 @@ impl<H: Home, P: Path> Bench<H, P> {
 
     // Why the opening was refused, if it was.
     pub fn refusal(&self) -> Option<Refusal>
-        ensures { result ≡ (state_of H.Source.words P.Path.lines P.Path.LENGTH self.now).refusal }
+        ensures { result ≡ self.now.state.refusal }
     {
         self.refusal
     }
 
     // The home as it is now, without what is cached or on its way.
     pub fn home(&self) -> &H
-        ensures { result.now ≡ self.now.home }
+        ensures home { result.now ≡ self.now.home }
+        ensures whole { IsWhole H.Source.words P.Path.lines P.Path.LENGTH self.now }
     {
         &self.home
     }
@@ -60,13 +59,13 @@ impl<H: Home, P: Path> Bench<H, P> {
 fn in_range(number: u32, most: u32) -> bool
     ensures { result ≡ between number most }
 {
-    (1 <= number) & (number <= most)
+    (1..=most).contains(&number)
 }
 
 fn refusal_of<H: Home, P: Path>(boards: u32, entries: u32, home: &H, path: &P) -> Option<Refusal>
     ensures { result ≡ refusal_of boards entries (H.Source.words home.now) (P.Path.lines path.now) }
 {
-    if !(in_range(boards, 8) & (in_range(home.size(), 64) & in_range(entries, 8))) {
+    if !(in_range(boards, 8) && in_range(home.size(), 64) && in_range(entries, 8)) {
         return Some(Refusal::SizeOutOfRange);
     }
     if !is_quiet(path) {
@@ -79,12 +78,7 @@ fn refusal_of<H: Home, P: Path>(boards: u32, entries: u32, home: &H, path: &P) -
 fn is_quiet<P: Path>(path: &P) -> bool
     ensures { result ≡ quiet (P.Path.lines path.now) }
 {
-    for board in 0..8 {
-        if waits(path, board) {
-            return false;
-        }
-    }
-    true
+    (0..8).all(|board| !waits(path, board))
 }
 
 // Whether a carry of the board waits.
@@ -92,8 +86,5 @@ fn waits<P: Path>(path: &P, board: u32) -> bool
     requires { board ≤ 7 }
     ensures { result ≡ nat_lt 0 (length (line (P.Path.lines path.now) board)) }
 {
-    match path.count(board) {
-        Ok(count) => count > 0,
-        Err(_) => false,
-    }
+    path.count(board).is_ok_and(|count| count > 0)
 }

@@ -1,14 +1,15 @@
-ghost use Rattle.std.specs.Prelude.{◌≡◌, ◌<◌, true, false, is_ok, Some, Ok, nat_lt};
+ghost use Rattle.std.specs.Prelude.{◌≡◌, false, is_ok, Some, nat_lt};
 ghost use Rattle.home.specs.Words.{written};
 ghost use Rattle.carries.specs.Lines.{lane, newest};
-ghost use Rattle.cache.specs.Places.{entry_in, taken_in, Stored};
+ghost use Rattle.cache.specs.Places.{taken_in};
 ghost use Rattle.cache.specs.Caches.{table_of};
 ghost use Rattle.state.specs.States.{cells_of, cache_of, owner_of, with_entry, with_owner, with_words};
-ghost use Rattle.state.specs.Steps.{fetched, unsettled, is_dirty, carry_of, send};
-ghost use Rattle.engine.specs.Benches.{state_of, done_answer};
-ghost use Rattle.engine.specs.Parts.{checks, Added};
+ghost use Rattle.state.specs.Steps.{fetched, unsettled, carry_of, send};
+ghost use Rattle.model.specs.Answers.{done_answer};
+ghost use Rattle.engine.specs.Parts.{Checked, Added, entry_at};
 
 use super::Bench;
+use super::access::Access;
 use cache::cache::Cache;
 use home::source::{Home, Source};
 use model::carry::Carry;
@@ -17,8 +18,9 @@ use model::refusal::Refusal;
 use path::path::Path;
 
 impl<H: Home, P: Path> Bench<H, P> {
-    pub(crate) fn checked(&self, board: u32, cell: u32) -> Result<(), Refusal>
-        ensures { result ≡ checks (state_of H.Source.words P.Path.lines P.Path.LENGTH self.now) board cell }
+    // Each step of a board on a cell begins so.
+    pub(crate) fn checked(&self, board: u32, cell: u32) -> Result<Access, Refusal>
+        ensures { Checked self.now.state board cell result }
     {
         if board >= self.boards {
             return Err(Refusal::NoSuchBoard);
@@ -26,148 +28,114 @@ impl<H: Home, P: Path> Bench<H, P> {
         if cell >= self.cells() {
             return Err(Refusal::NoSuchCell);
         }
-        Ok(())
+        Ok(Access { board, cell })
     }
 
     fn cells(&self) -> u32
-        ensures { result ≡ cells_of (state_of H.Source.words P.Path.lines P.Path.LENGTH self.now) }
+        ensures { result ≡ cells_of self.now.state }
     {
         self.home.size().min(64)
     }
 
-    pub(crate) fn entry(&self, board: u32, cell: u32) -> Entry
-        ensures { result ≡ entry_in (cache_of (state_of H.Source.words P.Path.lines P.Path.LENGTH self.now) board) cell }
+    fn cache(&self, at: Access) -> Cache
+        ensures { table_of result ≡ cache_of self.now.state at.board }
     {
-        match self.caches.of(board) {
-            Some(cache) => cache.entry(cell),
-            None => Entry::Invalid,
-        }
+        self.caches.of(at.board).unwrap()
+    }
+
+    pub(crate) fn entry(&self, at: Access) -> Entry
+        ensures { result ≡ entry_at self.now.state at }
+    {
+        self.cache(at).entry(at.cell)
     }
 
     pub(crate) fn owner(&self, cell: u32) -> Option<u32>
-        ensures { result ≡ owner_of (state_of H.Source.words P.Path.lines P.Path.LENGTH self.now) cell }
+        ensures { result ≡ owner_of self.now.state cell }
     {
         self.owners.of(cell)
     }
 
     pub(crate) fn set_owner(&mut self, cell: u32, owner: Option<u32>)
-        ensures state { state_of H.Source.words P.Path.lines P.Path.LENGTH self.new ≡ with_owner (state_of H.Source.words P.Path.lines P.Path.LENGTH self.old) cell owner }
+        ensures state { self.new.state ≡ with_owner self.old.state cell owner }
         ensures path { self.new.path ≡ self.old.path }
     {
         self.owners.put(cell, owner);
     }
 
     // Another entry for a cell that the board has cached.
-    pub(crate) fn set_entry(&mut self, board: u32, cell: u32, entry: Entry)
-        ensures state { state_of H.Source.words P.Path.lines P.Path.LENGTH self.new ≡ with_entry (state_of H.Source.words P.Path.lines P.Path.LENGTH self.old) board cell entry }
+    pub(crate) fn set_entry(&mut self, at: Access, entry: Entry)
+        ensures state { self.new.state ≡ with_entry self.old.state at.board at.cell entry }
         ensures path { self.new.path ≡ self.old.path }
     {
-        if let Some(cache) = self.caches.of(board) {
-            self.caches.put(board, cache.replace(cell, entry));
-        }
+        let cache = self.cache(at).replace(at.cell, entry);
+        self.caches.put(at.board, cache);
     }
 
     // The word that a read finds where the board has none cached: the newest of its own lane, or else the home's.
-    pub(crate) fn fetch(&self, board: u32, cell: u32) -> u32
-        requires { checks (state_of H.Source.words P.Path.lines P.Path.LENGTH self.now) board cell ≡ Ok tt }
-        ensures { result ≡ fetched (state_of H.Source.words P.Path.lines P.Path.LENGTH self.now) board cell }
+    pub(crate) fn fetch(&self, at: Access) -> u32
+        ensures { result ≡ fetched self.now.state at.board at.cell }
     {
-        match self.newest(board, cell) {
+        match self.newest(at) {
             Some(carry) => carry.word,
-            None => self.home.read(cell).unwrap_or(0),
+            None => self.home.read(at.cell).unwrap_or(0),
         }
     }
 
     // The board's newest carry of the cell.
-    fn newest(&self, board: u32, cell: u32) -> Option<Carry>
-        requires { checks (state_of H.Source.words P.Path.lines P.Path.LENGTH self.now) board cell ≡ Ok tt }
-        ensures { result ≡ newest (lane (P.Path.lines self.now.path) board cell) }
+    fn newest(&self, at: Access) -> Option<Carry>
+        ensures { result ≡ newest (lane self.now.state.lines at.board at.cell) }
     {
-        self.path.newest(board, cell).unwrap_or(None)
+        self.path.newest(at.board, at.cell).unwrap_or(None)
     }
 
     // Whether a write of the board to the cell is dirty or in flight.
-    pub(crate) fn unsettled(&self, board: u32, cell: u32) -> bool
-        requires { checks (state_of H.Source.words P.Path.lines P.Path.LENGTH self.now) board cell ≡ Ok tt }
-        ensures { result ≡ unsettled (state_of H.Source.words P.Path.lines P.Path.LENGTH self.now) board cell }
+    pub(crate) fn unsettled(&self, at: Access) -> bool
+        ensures { result ≡ unsettled self.now.state at.board at.cell }
     {
-        is_dirty(self.entry(board, cell)) | self.newest(board, cell).is_some()
+        matches!(self.entry(at), Entry::Dirty(_)) || self.newest(at).is_some()
     }
 
-    pub(crate) fn has_room(&self, board: u32) -> bool
-        ensures { result ≡ nat_lt (taken_in (cache_of (state_of H.Source.words P.Path.lines P.Path.LENGTH self.now) board)) self.now.entries }
+    // Whether the board may have one more entry.
+    fn has_room(&self, at: Access) -> bool
+        ensures { result ≡ nat_lt (taken_in (cache_of self.now.state at.board)) self.now.state.entries }
     {
-        match self.caches.of(board) {
-            Some(cache) => cache.taken() < self.entries,
-            None => 0 < self.entries,
-        }
+        self.cache(at).taken() < self.entries
     }
 
-    // A new entry of the board takes an empty place, if the board may have one more.
-    pub(crate) fn add(&mut self, board: u32, cell: u32, entry: Entry) -> Result<(), Refusal>
-        requires { checks (state_of H.Source.words P.Path.lines P.Path.LENGTH self.old) board cell ≡ Ok tt }
-        ensures added { Added (state_of H.Source.words P.Path.lines P.Path.LENGTH self.old) board cell entry result (state_of H.Source.words P.Path.lines P.Path.LENGTH self.new) }
+    // A new entry takes an empty place, if the board may have one more.
+    pub(crate) fn add(&mut self, at: Access, entry: Entry) -> Result<(), Refusal>
+        ensures added { Added self.old.state at.board at.cell entry result self.new.state }
         ensures path { self.new.path ≡ self.old.path }
         ensures refused { is_ok result ≡ false → self.new ≡ self.old }
     {
-        if !self.has_room(board) {
+        if !self.has_room(at) {
             return Err(Refusal::CacheFull);
         }
-        let cache = self.stored(board, cell, entry);
-        self.caches.put(board, cache);
+        let cache = self.cache(at).store(at.cell, entry).unwrap();
+        self.caches.put(at.board, cache);
         Ok(())
-    }
-
-    // The board's cache with the entry stored, which has a place for it.
-    fn stored(&self, board: u32, cell: u32, entry: Entry) -> Cache
-        requires on { board < 8 }
-        requires room { taken_in (cache_of (state_of H.Source.words P.Path.lines P.Path.LENGTH self.now) board) < 8 }
-        ensures { Stored (cache_of (state_of H.Source.words P.Path.lines P.Path.LENGTH self.now) board) cell entry (Some (table_of result)) }
-    {
-        match self.caches.of(board) {
-            Some(cache) => match cache.store(cell, entry) {
-                Some(after) => after,
-                None => unreachable(),
-            },
-            None => unreachable(),
-        }
     }
 
     // A carry that landed is written to the home.
     pub(crate) fn store(&mut self, carry: Carry)
-        ensures state { state_of H.Source.words P.Path.lines P.Path.LENGTH self.new ≡ with_words (state_of H.Source.words P.Path.lines P.Path.LENGTH self.old) (written (H.Source.words self.old.home) carry.cell carry.word) }
+        ensures state { self.new.state ≡ with_words self.old.state (written self.old.state.words carry.cell carry.word) }
         ensures path { self.new.path ≡ self.old.path }
     {
         let _ = self.home.write(carry.cell, carry.word);
     }
 
     // A carry of the word starts, and the cell's entry becomes as given; or the path refuses the carry.
-    pub(crate) fn send(
-        &mut self,
-        board: u32,
-        cell: u32,
-        word: u32,
-        entry: Entry,
-    ) -> Result<(), Refusal>
-        ensures step { send (state_of H.Source.words P.Path.lines P.Path.LENGTH self.old) board cell word entry ≡ Some (done_answer result, state_of H.Source.words P.Path.lines P.Path.LENGTH self.new) }
-        ensures path { P.Path.starts self.old.path (carry_of board cell word) self.new.path }
+    pub(crate) fn send(&mut self, at: Access, word: u32, entry: Entry) -> Result<(), Refusal>
+        ensures step { send self.old.state at.board at.cell word entry ≡ Some (done_answer result, self.new.state) }
+        ensures path { P.Path.starts self.old.path (carry_of at.board at.cell word) self.new.path }
         ensures refused { is_ok result ≡ false → self.new ≡ self.old }
     {
-        match self.path.start(Carry { board, cell, word }) {
-            Err(refusal) => Err(refusal),
-            Ok(()) => {
-                self.set_entry(board, cell, entry);
-                Ok(())
-            }
-        }
-    }
-}
-
-fn is_dirty(entry: Entry) -> bool
-    ensures { result ≡ is_dirty entry }
-{
-    match entry {
-        Entry::Dirty(_) => true,
-        _ => false,
+        self.path.start(Carry {
+            board: at.board,
+            cell: at.cell,
+            word,
+        })?;
+        self.set_entry(at, entry);
+        Ok(())
     }
 }

@@ -1,6 +1,5 @@
 ghost use Rattle.std.specs.Prelude.{◌≡◌, ◌<◌, ◌≤◌, false, length, take, is_ok, slice_set};
 ghost use Rattle.state.specs.Runs.{RanAll, Ran, Course, Went};
-ghost use Rattle.engine.specs.Benches.{state_of};
 
 use super::Bench;
 use home::source::Home;
@@ -13,8 +12,8 @@ impl<H: Home, P: Path> Bench<H, P> {
     // Performs every step of the list in turn, and puts one answer for each into the caller's list; what stands behind
     // them there stays. Where the list of answers is the shorter, nothing happens.
     pub fn run(&mut self, steps: &[Step], answers: &mut [Answer]) -> Result<(), Refusal>
-        ensures run { Ran (state_of H.Source.words P.Path.lines P.Path.LENGTH self.old) steps.now answers.old result answers.new (state_of H.Source.words P.Path.lines P.Path.LENGTH self.new) }
-        ensures path { Went P.Path.starts P.Path.lands (state_of H.Source.words P.Path.lines P.Path.LENGTH self.old) self.old.path steps.now result answers.new (state_of H.Source.words P.Path.lines P.Path.LENGTH self.new) self.new.path }
+        ensures run { Ran self.old.state steps.now answers.old result answers.new self.new.state }
+        ensures path { Went P.Path.starts P.Path.lands self.old.state self.old.path steps.now result answers.new self.new.state self.new.path }
         ensures refused { is_ok result ≡ false → self.new ≡ self.old }
     {
         if answers.len() < steps.len() {
@@ -27,8 +26,8 @@ impl<H: Home, P: Path> Bench<H, P> {
     // The same, where there is a place for every answer.
     fn perform_all(&mut self, steps: &[Step], answers: &mut [Answer])
         requires { length steps.now ≤ length answers.old }
-        ensures run { RanAll (state_of H.Source.words P.Path.lines P.Path.LENGTH self.old) steps.now answers.old answers.new (state_of H.Source.words P.Path.lines P.Path.LENGTH self.new) }
-        ensures path { Course P.Path.starts P.Path.lands (state_of H.Source.words P.Path.lines P.Path.LENGTH self.old) self.old.path steps.now (take (length steps.now) answers.new) (state_of H.Source.words P.Path.lines P.Path.LENGTH self.new) self.new.path }
+        ensures run { RanAll self.old.state steps.now answers.old answers.new self.new.state }
+        ensures path { Course P.Path.starts P.Path.lands self.old.state self.old.path steps.now (take (length steps.now) answers.new) self.new.state self.new.path }
     {
         // each answer has the place of its step
         for (i, step) in steps.iter().enumerate() {

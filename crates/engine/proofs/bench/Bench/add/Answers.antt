@@ -1,22 +1,12 @@
-use Rattle.std.proofs.Common.{sym, refl, ap, ◌∙◌, rules}
-use Rattle.state.specs.States.{with_caches}
-use Rattle.engine.specs.Benches.{state_of}
+use Rattle.std.proofs.Common.{rules}
+use Rattle.cache.specs.Caches.{table_of}
 use Rattle.engine.proofs.Ways.{added, no_room}
 use Rattle.engine.proofs.bench.Bench.add.Goals as goal
 
-pub returns-then-not-has_room : goal.returns-then-not-has_room
-returns-then-not-has_room g c =
-    record {
-      added = no_room (state_of g.H.Source.words g.P.Path.lines g.P.Path.LENGTH c.args.self.now) c.args.board c.args.cell c.args.entry (sym c.has_room.ensures ∙ c.if-not-has_room.true);
-      path = refl {a = c.args.self.now.path};
-      refused = λ _. refl {a = c.args.self.now};
-    }
+pub returns-then-not-has_room-clause-added : goal.returns-then-not-has_room-clause-added
+returns-then-not-has_room-clause-added g c =
+    no_room c.args.self.now.state c.args.at.board c.args.at.cell c.args.entry (search rules)
 
-pub returns : goal.returns
-returns g c =
-    let s = state_of g.H.Source.words g.P.Path.lines g.P.Path.LENGTH c.args.self.now in
-    record {
-      added = added s c.args.board c.args.cell c.args.entry _ _ (sym c.has_room.ensures ∙ c.if-not-has_room.false) c.stored-cache.ensures (ap (with_caches s) (sym c.put.ensures));
-      path = refl {a = c.args.self.now.path};
-      refused = λ e. search rules;
-    }
+pub returns-clause-added : goal.returns-clause-added
+returns-clause-added g c =
+    added c.args.self.now.state c.args.at.board c.args.at.cell c.args.entry (table_of c.unwrap-cache.result) _ (search rules) (search rules) (search rules)

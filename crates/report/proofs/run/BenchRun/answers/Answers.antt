@@ -2,11 +2,6 @@ use Rattle.std.proofs.Common.{◌≡◌, length, ◌∙◌, arith}
 use Rattle.std.proofs.lemmas.List.{take_at}
 use Rattle.home.specs.Buffer.{overlay}
 use Rattle.home.specs.PairHome.{words_of}
-use Rattle.home.specs.declared.holding_buffer.HoldingBuffer.{HoldingBuffer}
-use Rattle.home.specs.declared.pair_home.PairHome.{PairHome}
-use Rattle.carries.specs.Held.{lines_in}
-use Rattle.path.specs.declared.first_come.FirstCome.{FirstCome}
-use Rattle.engine.specs.Benches.{state_of}
 use Rattle.report.proofs.Replayed.{replayed}
 use Rattle.report.proofs.run.BenchRun.answers.Goals as goal
 
@@ -17,7 +12,6 @@ returns c =
     let home = c.memory.result in
     let given = c.as_mut_slice.result.now in
     let long : length given ≡ length run.steps.now = omega (arith, c.in_ok-answers.ensures.len) in
-    let t = state_of (λ (b : HoldingBuffer PairHome). overlay (words_of b.below) b.places) (λ (p : FirstCome). lines_in p.waiting) 8 c.replay.result.bench in
     take_at c.replay.new.answers _ _ (omega (arith, c.replay.auto.answers))
-    ∙ replayed run.header run.in_range c.new.result c.replay.result.bench.path run.steps.now given c.replay.new.answers t
+    ∙ replayed run.header run.in_range c.new.result c.replay.result.bench.path run.steps.now given c.replay.new.answers c.replay.result.bench.state
     (overlay (words_of home.below) home.places) c.replay.result.result c.memory.ensures c.new.ensures long c.replay.ensures.run c.replay.ensures.path
