@@ -26,7 +26,8 @@ pub trait Home: Source {
         ensures after { Self.words self.new ≡ written (Self.words self.old) cell word };
 }
 
-// A cell at or past the size is refused.
+// A cell at or past the size is refused. It takes the size, since `read` calls it: a function over any source could call
+// `read` again, so the check does not take it here.
 pub(crate) fn check_cell(cell: u32, size: u32) -> Result<(), Refusal>
     ensures { result ≡ (if nat_lt cell size then Ok tt else Err NoSuchCell) }
 {
