@@ -23,7 +23,7 @@ module _ (boards entries : ℕ) (words : List ℕ) (lines : List (List Carry)) (
   -- an accepted one has some
   boards-of : (r : Option Refusal) → refusal_of boards entries words lines ≡ r → (opened_by r boards entries words lines long).refusal ≡ None → 0 < (opened_by r boards entries words lines long).boards
   boards-of None e h = omega (arith, (accepted boards entries words lines e).some_board)
-  boards-of (Some r) e h = let z : ◌≡◌ {A = ℕ} 0 1 = cc in absurd (omega arith)
+  boards-of (Some r) e h = cc
 
   pub accepted-boards : (opened boards entries words lines long).refusal ≡ None → 0 < (opened boards entries words lines long).boards
   accepted-boards = boards-of (refusal_of boards entries words lines) refl

@@ -1,6 +1,6 @@
 ghost use Rattle.std.specs.Prelude.{◌≡◌, ◌≤◌, length, nat_lt};
 ghost use Rattle.carries.specs.Lines.{line};
-ghost use Rattle.state.specs.Opening.{between, quiet, refusal_of, fresh, opened};
+ghost use Rattle.state.specs.Opening.{between, quiet, refusal_of, opened};
 ghost use Rattle.engine.specs.Seen.{IsWhole};
 
 use super::Bench;
@@ -14,21 +14,15 @@ impl<H: Home, P: Path> Bench<H, P> {
     // A bench with that many boards and entries, over a home whose size is the number of its cells, and over an empty
     // path. A refused one has no boards, so that every step of it is refused.
     pub fn open(boards: u32, entries: u32, home: H, path: P) -> Bench<H, P>
+        ensures home { result.home ≡ home }
         ensures path { result.path ≡ path }
         ensures state { result.state ≡ opened boards entries (H.Source.words home) (P.Path.lines path) P.Path.LENGTH }
     {
-        match refusal_of(boards, entries, &home, &path) {
-            None => Bench::fresh(None, boards, entries, home, path),
-            Some(refusal) => Bench::fresh(Some(refusal), 0, 0, home, path),
-        }
-    }
-
-    fn fresh(refusal: Option<Refusal>, boards: u32, entries: u32, home: H, path: P) -> Bench<H, P>
-        requires few { boards ≤ 8 }
-        requires small { entries ≤ 8 }
-        ensures path { result.path ≡ path }
-        ensures state { result.state ≡ fresh refusal boards entries (H.Source.words home) (P.Path.lines path) P.Path.LENGTH }
-    {
+        let refusal = refusal_of(boards, entries, &home, &path);
+        let (boards, entries) = match refusal {
+            None => (boards, entries),
+            Some(_) => (0, 0),
+        };
         Bench {
             refusal,
             boards,
