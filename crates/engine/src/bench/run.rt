@@ -37,7 +37,7 @@ impl<H: Home, P: Path> Bench<H, P> {
     }
 }
 
-// Puts an answer in a place of the list.
+// Puts an answer in a place of the list. A call of its own, so that the proof of the loop knows of it this one fact.
 fn put(answers: &mut [Answer], place: usize, answer: Answer)
     requires { place < length answers.old }
     ensures { answers.new ≡ slice_set answers.old place answer }

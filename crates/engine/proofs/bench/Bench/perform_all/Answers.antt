@@ -1,5 +1,5 @@
-use Rattle.std.proofs.Common.{◌≡◌, ◌+◌, ◌<◌, length, take, drop, sym, refl, ap, ◌∙◌, subst, arith}
-use Rattle.std.proofs.lemmas.List.{drop-drop, drop-set-lt}
+use Rattle.std.proofs.Common.{◌≡◌, ◌+◌, ◌<◌, length, take, drop, sym, refl, subst, arith}
+use Rattle.std.proofs.lemmas.Grind.{common_steps}
 use Rattle.state.specs.Runs.{Course, end}
 use Rattle.state.proofs.Runs.{forget-path, course-more, course-all}
 use Rattle.engine.proofs.bench.Bench.perform_all.Goals as goal
@@ -21,12 +21,7 @@ loop-i-preserved g c =
       course =
           subst (λ l. Course g.P.Path.starts g.P.Path.lands s.state s.path (take (i + 1) steps) (take (i + 1) l) u.state u.path) (sym c.put.ensures)
           (course-more g.P.Path.starts g.P.Path.lands s.state t.state u.state s.path t.path u.path steps answers i _ a c.loop-i-test.true place c.loop-i.invariant.course c.perform-answer.ensures.step c.perform-answer.ensures.path);
-      rest =
-          ap (drop (i + 1)) c.put.ensures
-          ∙ drop-set-lt (i + 1) answers i a (omega arith)
-          ∙ sym (drop-drop 1 i answers)
-          ∙ ap (drop 1) c.loop-i.invariant.rest
-          ∙ drop-drop 1 i c.args.answers.now;
+      rest = grind (arith, common_steps);
     }
 
 pub returns : goal.returns
