@@ -1,5 +1,6 @@
 use crate::flat::Flat;
-use judge::judge::Judge;
+use judge::hearing::Hearing;
+use judge::judge::{Judge, MOST_EVENTS};
 use model::event::{Action, Event};
 use model::refusal::Refusal;
 
@@ -113,42 +114,19 @@ fn owners(rt: HostRuntime) {
     let mut list = [blank(); 2];
     {
         let mut judge = Judge::new(&mut list);
-        assert_eq!(rt;
-            judge.note(2, &ONE_CELL, event(0, 0, Action::Release)),
-            Err(Refusal::NotOwner)
-        );
-        assert_eq!(rt;
-            judge.note(2, &ONE_CELL, event(0, 0, Action::Acquire)),
-            Ok(1)
-        );
-        assert_eq!(rt;
-            judge.note(2, &ONE_CELL, event(0, 0, Action::Acquire)),
-            Err(Refusal::OwnedAlready)
-        );
-        assert_eq!(rt;
-            judge.note(2, &ONE_CELL, event(1, 0, Action::Acquire)),
-            Err(Refusal::OwnedByAnother)
-        );
-        assert_eq!(rt;
-            judge.note(2, &ONE_CELL, event(1, 0, Action::Release)),
-            Err(Refusal::NotOwner)
-        );
-        assert_eq!(rt;
-            judge.note(2, &ONE_CELL, event(1, 0, Action::Write(MOST))),
-            Ok(2)
-        );
-        assert_eq!(rt;
-            judge.note(2, &ONE_CELL, event(0, 0, Action::Acquire)),
-            Err(Refusal::OwnedAlready)
-        );
-        assert_eq!(rt;
-            judge.note(2, &ONE_CELL, event(1, 0, Action::Release)),
-            Err(Refusal::NotOwner)
-        );
-        assert_eq!(rt;
-            judge.note(2, &ONE_CELL, event(0, 0, Action::Release)),
-            Err(Refusal::EventsFull)
-        );
+        for (board, action, answer) in [
+            (0, Action::Release, Err(Refusal::NotOwner)),
+            (0, Action::Acquire, Ok(1)),
+            (0, Action::Acquire, Err(Refusal::OwnedAlready)),
+            (1, Action::Acquire, Err(Refusal::OwnedByAnother)),
+            (1, Action::Release, Err(Refusal::NotOwner)),
+            (1, Action::Write(MOST), Ok(2)),
+            (0, Action::Acquire, Err(Refusal::OwnedAlready)),
+            (1, Action::Release, Err(Refusal::NotOwner)),
+            (0, Action::Release, Err(Refusal::EventsFull)),
+        ] {
+            assert_eq!(rt; judge.note(2, &ONE_CELL, event(board, 0, action)), answer);
+        }
     }
     assert_eq!(rt; list[0], event(0, 0, Action::Acquire));
     assert_eq!(rt; list[1], event(1, 0, Action::Write(MOST)));
@@ -203,18 +181,16 @@ fn no_such_write(rt: HostRuntime) {
     let two_cells = Flat { cells: 2, word: 0 };
     let mut list = [blank(); 4];
     let mut judge = Judge::new(&mut list);
-    assert_eq!(rt;
-        judge.note(2, &two_cells, event(0, 0, Action::Acquire)),
-        Ok(1)
-    );
-    assert_eq!(rt;
-        judge.note(2, &two_cells, event(0, 1, Action::Write(5))),
-        Ok(2)
-    );
-    assert_eq!(rt;
-        judge.note(2, &two_cells, event(0, 0, Action::Release)),
-        Ok(3)
-    );
+    for (cell, action, number) in [
+        (0, Action::Acquire, 1),
+        (1, Action::Write(5), 2),
+        (0, Action::Release, 3),
+    ] {
+        assert_eq!(rt;
+            judge.note(2, &two_cells, event(0, cell, action)),
+            Ok(number)
+        );
+    }
     for number in [1, 2, 3, 4, 5, MOST] {
         assert_eq!(rt;
             judge.readable(2, &two_cells, 1, 0, number),
@@ -250,22 +226,17 @@ fn handed_over(rt: HostRuntime) {
     for (p, q) in [(0, 1), (1, 0)] {
         let mut list = [blank(); 8];
         let mut judge = Judge::new(&mut list);
-        assert_eq!(rt;
-            judge.note(2, &ONE_CELL, event(p, 0, Action::Acquire)),
-            Ok(1)
-        );
-        assert_eq!(rt;
-            judge.note(2, &ONE_CELL, event(p, 0, Action::Write(1))),
-            Ok(2)
-        );
-        assert_eq!(rt;
-            judge.note(2, &ONE_CELL, event(p, 0, Action::Release)),
-            Ok(3)
-        );
-        assert_eq!(rt;
-            judge.note(2, &ONE_CELL, event(q, 0, Action::Write(2))),
-            Ok(4)
-        );
+        for (board, action, number) in [
+            (p, Action::Acquire, 1),
+            (p, Action::Write(1), 2),
+            (p, Action::Release, 3),
+            (q, Action::Write(2), 4),
+        ] {
+            assert_eq!(rt;
+                judge.note(2, &ONE_CELL, event(board, 0, action)),
+                Ok(number)
+            );
+        }
         assert_eq!(rt; judge.legal(2, &ONE_CELL, q, 0, 0), Ok(Some(0)));
         assert_eq!(rt;
             judge.note(2, &ONE_CELL, event(q, 0, Action::Acquire)),
@@ -299,4 +270,19 @@ fn own_writes(rt: HostRuntime) {
     );
     assert_eq!(rt; judge.legal(2, &ONE_CELL, 0, 0, 1), Ok(None));
     assert_eq!(rt; judge.legal(2, &ONE_CELL, 1, 0, 1), Ok(Some(2)));
+}
+
+// A hearing answers what its judge does, for its own number of boards and its own source.
+#[test]
+fn heard(rt: HostRuntime) {
+    let mut list = [blank(); MOST_EVENTS];
+    let mut hearing = Hearing::new(&mut list, 2, &ONE_CELL);
+    assert_eq!(rt;
+        hearing.note(event(2, 0, Action::Write(5))),
+        Err(Refusal::NoSuchBoard)
+    );
+    assert_eq!(rt; hearing.note(event(1, 0, Action::Write(5))), Ok(1));
+    assert_eq!(rt; hearing.legal(1, 0, 5), Ok(Some(1)));
+    assert_eq!(rt; hearing.legal(0, 0, 0), Ok(Some(0)));
+    assert_eq!(rt; hearing.legal(0, 1, 0), Err(Refusal::NoSuchCell));
 }
