@@ -13,7 +13,7 @@ use Rattle.judge.specs.Judging.{acquiring, releasing, allowed}
 use Rattle.judge.specs.Discipline.{DisciplineDecided}
 
 err-not-ok : {r : Refusal} → ◌≡◌ {A = Result (Unit {0}) Refusal} (Err r) (Ok tt) → ⊥
-err-not-ok p = let z : ◌≡◌ {A = ℕ} 0 1 = cc in omega arith
+err-not-ok p = cc
 
 -- an acquire is allowed where nobody owns the cell, a release where the board does
 taken : (o : Option ℕ) (b : ℕ) → acquiring o b ≡ Ok tt → o ≡ None

@@ -9,25 +9,25 @@ use Rattle.order.specs.Order.{LatestRelease, some_release, no_release}
 -- ── constructors apart ──
 
 pub none-not-some : {e : Event} → ◌≡◌ {A = Option Event} None (Some e) → ⊥
-none-not-some p = let z : ◌≡◌ {A = ℕ} 0 1 = cc in omega arith
+none-not-some p = cc
 
 pub some-event : {e f : Event} → ◌≡◌ {A = Option Event} (Some e) (Some f) → e ≡ f
 some-event p = cc
 
 pub nothing-not-some : {n : ℕ} → ◌≡◌ {A = Option ℕ} None (Some n) → ⊥
-nothing-not-some p = let z : ◌≡◌ {A = ℕ} 0 1 = cc in omega arith
+nothing-not-some p = cc
 
 pub some_same : {m n : ℕ} → ◌≡◌ {A = Option ℕ} (Some m) (Some n) → m ≡ n
 some_same p = cc
 
 pub write-not-release : {a : Action} {w : ℕ} → a ≡ Action.Write w → a ≡ Action.Release → ⊥
-write-not-release p q = let z : ◌≡◌ {A = ℕ} 0 1 = cc in omega arith
+write-not-release p q = cc
 
 pub write-not-acquire : {a : Action} {w : ℕ} → a ≡ Action.Write w → a ≡ Action.Acquire → ⊥
-write-not-acquire p q = let z : ◌≡◌ {A = ℕ} 0 1 = cc in omega arith
+write-not-acquire p q = cc
 
 pub acquire-not-release : {a : Action} → a ≡ Action.Acquire → a ≡ Action.Release → ⊥
-acquire-not-release p q = let z : ◌≡◌ {A = ℕ} 0 1 = cc in omega arith
+acquire-not-release p q = cc
 
 pub event-same : {m n : ℕ} → event m ≡ event n → m ≡ n
 event-same p = cc

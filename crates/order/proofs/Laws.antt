@@ -46,7 +46,7 @@ module _ (h : List Event) (c w n : ℕ) (e : Event) (stands : At h n e) (write :
 
   -- one link on from an event of the write's board
   step : {x y : Point} → UpTo h c (event n) x → (m : ℕ) (f : Event) → x ≡ event m → At h m f → f.board ≡ e.board → Directly h c x y → Reached y
-  step u m f p a q initial = let z : ◌≡◌ {A = ℕ} 0 1 = cc in absurd (omega arith)
+  step u m f p a q initial = cc
   step u m f p a q (same_board {n = i} b d s by l) = inl (i, d, refl, s, by.1 ∙ sym l.kind.1 ∙ ap (λ (j : Event). j.board) same ∙ q)
     where
       same : l.event ≡ f
@@ -85,7 +85,7 @@ module _ (h : List Event) (c w n : ℕ) (e : Event) (stands : At h n e) (write :
           up_to = inl refl;
         },
       )
-  step u m f p a q (acquire d s by (no_release none)) = let z : ◌≡◌ {A = ℕ} 0 1 = cc in absurd (omega arith)
+  step u m f p a q (acquire d s by (no_release none)) = cc
 
   reached : {y : Point} → Before h c (event n) y → Reached y
   reached (link d) = step (inl refl) n e refl stands refl d

@@ -247,9 +247,9 @@ views-more c n (e ∷ h) g t =
 
 -- nothing is before the initial write
 first-directly : {h : List Event} {c : ℕ} {x y : Point} → y ≡ initial_write → Directly h c x y → ⊥
-first-directly p initial = let z : ◌≡◌ {A = ℕ} 0 1 = cc in omega arith
-first-directly p (same_board b e a k l) = let z : ◌≡◌ {A = ℕ} 0 1 = cc in omega arith
-first-directly p (acquire e a k l) = let z : ◌≡◌ {A = ℕ} 0 1 = cc in omega arith
+first-directly p initial = cc
+first-directly p (same_board b e a k l) = cc
+first-directly p (acquire e a k l) = cc
 
 pub none-before-first : {h : List Event} {c : ℕ} {x y : Point} → y ≡ initial_write → Before h c x y → ⊥
 none-before-first p (link d) = first-directly p d

@@ -1,5 +1,5 @@
 -- Writes that only their own board knows of, writes with no later write, and what stays readable, as one more event comes.
-use Rattle.std.proofs.Common.{◌≡◌, ℕ, ◌⊎◌, List, sym, ap, ◌∙◌, subst, inl, inr, arith}
+use Rattle.std.proofs.Common.{◌≡◌, ℕ, ◌⊎◌, List, sym, ap, ◌∙◌, subst, inl, inr}
 use Rattle.model.specs.declared.event.Action.{Action}
 use Rattle.model.specs.declared.event.Event.{Event}
 use Rattle.order.specs.Order.{At, next, more, By, WriteOf, Latest, Point, initial_release, event, LatestRelease, some_release, no_release, Before, IsWrite, Known, Overwritten, Readable}
@@ -51,7 +51,7 @@ pub own-unpublished : {h : List Event} {c p n v : ℕ} → Own h c p n v → Pub
 own-unpublished {h} {c} {p} {n} {v} o k = go k.latest k.is_latest k.up_to
   where
     apart : {m : ℕ} → event m ≡ initial_release → ⊥
-    apart q = let z : ◌≡◌ {A = ℕ} 0 1 = cc in omega arith
+    apart q = cc
 
     go : (z : Point) → LatestRelease h c (next h) z → UpTo h c (event n) z → ⊥
     go z (some_release {m} l) (inl q) = write-not-release o.action (ap (λ (f : Event). f.action) (at_same h n o.write l.event o.stands (subst (λ (k : ℕ). At h k l.event) (sym (event-same q)) l.stands)) ∙ l.kind.1)

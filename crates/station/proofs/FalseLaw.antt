@@ -26,7 +26,7 @@ use Rattle.text.specs.Heading.{starting_words}
 use Rattle.station.specs.Verdicts.{accepted, found, task_answer, history_after, ended, resumed, judged_to, verdict_for, verdict_of}
 use Rattle.station.specs.Laws.{event_in, events_of, read_step, FirstFalse, FalseExactly}
 use Rattle.station.proofs.LogLaws.{runs-there, runs_back}
-use Rattle.station.proofs.StepLaws.{Runs, done, step, never, after-there, standing-there, step-there, step_back, standing_on, boards-on, one_more}
+use Rattle.station.proofs.StepLaws.{Runs, done, step, after-there, standing-there, step-there, step_back, standing_on, boards-on, one_more}
 use Rattle.station.proofs.ZeroLaw.{read, long, start}
 
 -- after the events h
@@ -44,16 +44,16 @@ record FalseFrom (H : Header) (h : List Event) (ps : List PlacedStep) (n : ℕ) 
 ended-false : (a : Result Bool Refusal) (m n : ℕ) (v : Verdict) → resumed (ended a m) v ≡ FalseRead n → ((a ≡ Ok true) × (v ≡ FalseRead n)) ⊎ ((a ≡ Ok false) × (m ≡ n))
 ended-false (Ok true) m n v e = inl (refl, e)
 ended-false (Ok false) m n v e = inr (refl, cc)
-ended-false (Err r) m n v e = never (cc)
+ended-false (Err r) m n v e = cc
 
 accepted-true : (r : Result ℕ Refusal) → accepted r ≡ Ok false → ⊥
-accepted-true (Ok n) e = never (cc)
-accepted-true (Err r) e = never (cc)
+accepted-true (Ok n) e = cc
+accepted-true (Err r) e = cc
 
 found_none : (r : Result (Option ℕ) Refusal) → found r ≡ Ok false → r ≡ Ok None
-found_none (Ok (Some n)) e = never (cc)
+found_none (Ok (Some n)) e = cc
 found_none (Ok None) e = refl
-found_none (Err r) e = never (cc)
+found_none (Err r) e = cc
 
 -- only a read with its word is checked
 checked : (s : TraceStep) (b c w : ℕ) → task_of s ≡ Check b c w → s ≡ ReadWord b c w
@@ -62,13 +62,13 @@ checked (ReadWord b' c' w') b c w e =
     let y : c' ≡ c = cc in
     let z : w' ≡ w = cc in
     cc
-checked (Plain (Step.Read b' c')) b c w e = never (cc)
-checked (Plain (Step.Write b' c' w')) b c w e = never (cc)
-checked (Plain (Step.Acquire b' c')) b c w e = never (cc)
-checked (Plain (Step.Release b' c')) b c w e = never (cc)
-checked (Plain (Step.WriteBack b' c')) b c w e = never (cc)
-checked (Plain (Step.Eject b' c')) b c w e = never (cc)
-checked (Plain Step.Land) b c w e = never (cc)
+checked (Plain (Step.Read b' c')) b c w e = cc
+checked (Plain (Step.Write b' c' w')) b c w e = cc
+checked (Plain (Step.Acquire b' c')) b c w e = cc
+checked (Plain (Step.Release b' c')) b c w e = cc
+checked (Plain (Step.WriteBack b' c')) b c w e = cc
+checked (Plain (Step.Eject b' c')) b c w e = cc
+checked (Plain Step.Land) b c w e = cc
 
 record FalseHere (H : Header) (h : List Event) (t : Task) : Type 0 where
   board : ℕ
@@ -96,10 +96,10 @@ module _ (H : Header) (R : InRange H) (ws : List ℕ) (size : length ws ≡ H.ce
         on_bench = (s.0, low);
         not_legal = (legal_none h H.start c b w f small).0 (ap (λ x. legal h x c b w) (sym (all c low)) ∙ o);
       }
-  step-false Skip h f q = never (cc)
+  step-false Skip h f q = cc
 
   false_there : (ps : List PlacedStep) (h : List Event) (n : ℕ) → on_boards h ≡ true → judged_to AllLegal H.boards ws h ps ≡ FalseRead n → FalseFrom H h ps n
-  false_there [] h n f e = never (cc)
+  false_there [] h n f e = cc
   false_there (p ∷ ps) h n f e = go (ended-false (task_answer h H.boards ws (task_of p.step)) p.line n _ e) (λ k g q. false_there ps k n g q)
     where
       go : ((task_answer h H.boards ws (task_of p.step) ≡ Ok true) × (judged_to AllLegal H.boards ws (history_after h H.boards ws (task_of p.step)) ps ≡ FalseRead n)) ⊎ ((task_answer h H.boards ws (task_of p.step) ≡ Ok false) × (p.line ≡ n)) → ((k : List Event) → on_boards k ≡ true → judged_to AllLegal H.boards ws k ps ≡ FalseRead n → FalseFrom H k ps n) → FalseFrom H h (p ∷ ps) n
@@ -168,7 +168,7 @@ module _ (log : List ℕ) (n : ℕ) where
           not_legal = m.not_legal;
         },
       )
-  there (Err f) q e = never (cc)
+  there (Err f) q e = cc
 
   back : (t : Trace) × (reading Log log ≡ Ok t) × FirstFalse t.header t.steps n → verdict_of log ≡ FalseRead n
   back (t, q, m) =

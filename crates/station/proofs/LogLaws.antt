@@ -15,7 +15,7 @@ use Rattle.station.specs.declared.task.Task.{Task}
 use Rattle.station.specs.declared.task.Task.TheVariants.{Note, Check, Skip}
 use Rattle.station.specs.Tasks.{task_of}
 use Rattle.station.specs.Laws.{event_in, events_of, Stands, read_step, OnBench}
-use Rattle.station.proofs.StepLaws.{Fine, Runs, done, step, never}
+use Rattle.station.proofs.StepLaws.{Fine, Runs, done, step}
 
 -- all reads of some steps are legal, where the events h come before them
 pub record From (H : Header) (h : List Event) (ps : List PlacedStep) : Type 0 where
@@ -46,8 +46,8 @@ module _ (H : Header) where
   }
     where
       none : (before later : List PlacedStep) (line b c w : ℕ) → [] ≡ before ++ read_step line b c w ∷ later → Legal (h ++ events_of before) H.start c b w
-      none [] later line b c w e = never (cc)
-      none (q ∷ before) later line b c w e = never (cc)
+      none [] later line b c w e = cc
+      none (q ∷ before) later line b c w e = cc
   runs-there (p ∷ ps) h d (step x r) =
       let n = runs-there ps (h ++ event_in (task_of p.step)) (disciplined-on (task_of p.step) h x d) r in
       record {

@@ -31,14 +31,11 @@ pub data Runs (H : Header) : List Event → List PlacedStep → Type 0 where
   done : {h : List Event} → Runs H h []
   step : {h : List Event} {p : PlacedStep} {ps : List PlacedStep} → Fine H h (task_of p.step) → Runs H (h ++ event_in (task_of p.step)) ps → Runs H h (p ∷ ps)
 
-pub never : {X : Type 0} → ◌≡◌ {A = ℕ} 0 1 → X
-never z = absurd (omega arith)
-
 -- ── checks in turn ──
 
 pub after-there : {T : Type 0} (r : Result (Unit {0}) Refusal) (s : Result T Refusal) (x : T) → after r s ≡ Ok x → (r ≡ Ok tt) × (s ≡ Ok x)
 after-there (Ok u) s x e = (refl, e)
-after-there (Err r) s x e = never (cc)
+after-there (Err r) s x e = cc
 
 all-passed : (r s : Result (Unit {0}) Refusal) (t : Bool) (n : ℕ) → r ≡ Ok tt → s ≡ Ok tt → t ≡ true → after (after r (after s (cond t (Ok tt) (Err EventsFull)))) (Ok n) ≡ Ok n
 all-passed r s t n p q u =
@@ -48,9 +45,9 @@ all-passed r s t n p q u =
 
 tests : (x y z : Bool) → cond {A = Result (Unit {0}) Refusal} x (cond y (cond z (Ok tt) (Err NoSuchCell)) (Err NoSuchBoard)) (Err SizeOutOfRange) ≡ Ok tt → (y ≡ true) × (z ≡ true)
 tests true true true e = (refl, refl)
-tests true true false e = never (cc)
-tests true false z e = never (cc)
-tests false y z e = never (cc)
+tests true true false e = cc
+tests true false z e = cc
+tests false y z e = cc
 
 pub standing-there : (n m b c : ℕ) → standing n m b c ≡ Ok tt → (b < n) × (c < m)
 standing-there n m b c e = let t = tests (ranged n m) (ltb b n) (ltb c m) e in (ltb-true b n t.0, ltb-true c m t.1)
@@ -63,17 +60,17 @@ standing-back n m b c r p q = cond-true _ _ _ r ∙ cond-true _ _ _ (lt-ltb b n 
 
 accepted-there : (r : Result ℕ Refusal) → accepted r ≡ Ok true → (n : ℕ) × (r ≡ Ok n)
 accepted-there (Ok n) e = (n, refl)
-accepted-there (Err r) e = never (cc)
+accepted-there (Err r) e = cc
 
 found-there : (r : Result (Option ℕ) Refusal) → found r ≡ Ok true → (n : ℕ) × (r ≡ Ok (Some n))
 found-there (Ok (Some n)) e = (n, refl)
-found-there (Ok None) e = never (cc)
-found-there (Err r) e = never (cc)
+found-there (Ok None) e = cc
+found-there (Err r) e = cc
 
 ended-there : (a : Result Bool Refusal) (n : ℕ) (v : Verdict) → resumed (ended a n) v ≡ AllLegal → (a ≡ Ok true) × (v ≡ AllLegal)
 ended-there (Ok true) n v e = (refl, e)
-ended-there (Ok false) n v e = never (cc)
-ended-there (Err r) n v e = never (cc)
+ended-there (Ok false) n v e = cc
+ended-there (Err r) n v e = cc
 
 legal-some : (h : List Event) (start c b w : ℕ) → on_boards h ≡ true → b < 8 → Legal h start c b w → (n : ℕ) × (legal h start c b w ≡ Some n)
 legal-some h start c b w f s l = go (legal h start c b w) refl

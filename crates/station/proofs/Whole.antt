@@ -1,5 +1,5 @@
 -- The verdict on a whole text, once its header is read.
-use Rattle.std.proofs.Common.{◌≡◌, ℕ, ◌≤◌, List, [], replicate, Some, None, Ok, Err, Option, Result, sym, refl, ap, ◌∙◌, arith}
+use Rattle.std.proofs.Common.{◌≡◌, ℕ, ◌≤◌, List, [], replicate, Some, None, Ok, Err, Option, Result, sym, refl, ap, ◌∙◌}
 use Rattle.home.specs.PairHome.{size_for}
 use Rattle.home.proofs.Sizes.{size-as-asked}
 use Rattle.grammar.specs.declared.kind.Kind.TheVariants.{Log}
@@ -21,8 +21,8 @@ whole_of (Ok g) ps None h fits e =
     let same : g ≡ h = cc in
     ap (λ (k : Header). judged_to AllLegal k.boards (replicate (size_for k.cells) k.start) [] ps) (sym same)
     ∙ ap (λ ws. judged_to AllLegal g.boards ws [] ps) (words-start g (fits g refl).cells.1)
-whole_of (Ok g) ps (Some f) h fits e = let z : ◌≡◌ {A = ℕ} 0 1 = cc in absurd (omega arith)
-whole_of (Err g) ps f h fits e = let z : ◌≡◌ {A = ℕ} 0 1 = cc in absurd (omega arith)
+whole_of (Ok g) ps (Some f) h fits e = cc
+whole_of (Err g) ps f h fits e = cc
 
 pub whole : (log : List ℕ) (h : Header) → header_of (reading Log log) ≡ Ok h → judged_to (end_of (course_in Log log).fault) h.boards (replicate (size_for h.cells) h.start) [] (course_in Log log).steps ≡ verdict_of log
 whole log h e = whole_of (header_in Log log) (course_in Log log).steps (course_in Log log).fault h (header-in-range Log log) e

@@ -22,7 +22,7 @@ use Rattle.station.specs.Verdicts.{task_answer, history_after, ended, resumed, j
 use Rattle.station.specs.Laws.{AllReadsLegal, ZeroExactly}
 use Rattle.station.proofs.Lines.{OnLine, steps-placed}
 use Rattle.station.proofs.LogLaws.{runs-there, runs_back}
-use Rattle.station.proofs.StepLaws.{never, judged-there, judged-back}
+use Rattle.station.proofs.StepLaws.{judged-there, judged-back}
 
 -- ── only one verdict has the number 0 ──
 
@@ -78,8 +78,8 @@ read_of : (r : Result Header Fault) (ps : List PlacedStep) (f : Option Fault) (l
 read_of (Ok g) ps None log t fits lined few e =
     let same : record { header = g; steps = ps } ≡ t = cc in
     subst (Read log) same (record { header = fits g refl; lined = lined; few = few })
-read_of (Ok g) ps (Some f) log t fits lined few e = never (cc)
-read_of (Err g) ps f log t fits lined few e = never (cc)
+read_of (Ok g) ps (Some f) log t fits lined few e = cc
+read_of (Err g) ps f log t fits lined few e = cc
 
 pub read : (log : List ℕ) (t : Trace) → reading Log log ≡ Ok t → Read log t
 read log t e = let p = steps-placed Log log in read_of (header_in Log log) (course_in Log log).steps (course_in Log log).fault log t (header-in-range Log log) p.0 p.1 e

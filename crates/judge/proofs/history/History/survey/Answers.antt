@@ -9,9 +9,6 @@ use Rattle.judge.proofs.history.History.survey.Goals as goal
 pub take_in-requires-clause-board : goal.take_in-requires-clause-board
 take_in-requires-clause-board c = let h = c.args.self.events.now in board-at h (suc c.loop-i.i) _ c.args.self.boards (at-get_or h c.loop-i.i _ c.loop-i-test.true)
 
-pub loop-i-init : goal.loop-i-init
-loop-i-init c = ap (views_from c.args.cell 1 c.args.self.events.now) c.initial-known.ensures
-
 pub loop-i-preserved : goal.loop-i-preserved
 loop-i-preserved c =
     let h = c.args.self.events.now in
