@@ -51,6 +51,7 @@ impl<'a, S: Source> Hearing<'a, S> {
     pub fn legal(&self, board: u32, cell: u32, word: u32) -> Result<Option<u32>, Refusal>
         ensures { result ≡ legal_answer self.now.history self.now.boards self.now.words board cell word }
     {
-        self.judge.legal(self.boards, self.source, board, cell, word)
+        self.judge
+            .legal(self.boards, self.source, board, cell, word)
     }
 }

@@ -45,7 +45,7 @@ impl<'a> History<'a> {
         }
     }
 
-    // The views of the cell.
+    // The views of the cell. A loop, which changes the table in place: a fold would hand all of it on at each event.
     fn survey(self, cell: u32) -> Views
         ensures { result ≡ views cell self.entry.events.now }
     {
