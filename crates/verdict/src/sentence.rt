@@ -2,7 +2,8 @@
 use grammar::kind::Kind;
 use home::pair_home::PairHome;
 use indexmap::IndexSet;
-use judge::judge::{FREE, Judge, MOST_EVENTS};
+use judge::hearing::Hearing;
+use judge::judge::{FREE, MOST_EVENTS};
 use model::event::Action;
 use station::task::{Task, task_of};
 use station::verdict::Verdict;
@@ -45,14 +46,14 @@ fn tell_false_read(rt: &HostRuntime, line: u32, log: &[u8]) -> io::Result<()> {
     };
     let home = PairHome::new(header.cells, header.start);
     let mut events = [FREE; MOST_EVENTS];
-    let mut judge = Judge::new(&mut events);
+    let mut hearing = Hearing::new(&mut events, header.boards, &home);
     // Each word once, in the order of the first writes.
     let mut words = IndexSet::new(rt.alloc());
     words.insert(header.start)?;
     while let Ok(Some(placed)) = trace.next() {
         match task_of(placed.step) {
             Task::Note(event) => {
-                let _ = judge.note(header.boards, &home, event);
+                let _ = hearing.note(event);
                 if let Action::Write(word) = event.action {
                     words.insert(word)?;
                 }
@@ -64,10 +65,7 @@ fn tell_false_read(rt: &HostRuntime, line: u32, log: &[u8]) -> io::Result<()> {
                 let readable: Vec<u32> = words
                     .iter()
                     .copied()
-                    .filter(|w| matches!(
-                        judge.legal(header.boards, &home, board, cell, *w),
-                        Ok(Some(_))
-                    ))
+                    .filter(|w| matches!(hearing.legal(board, cell, *w), Ok(Some(_))))
                     .collect(rt.alloc())?;
                 return tell_words(rt, readable.as_slice());
             }
