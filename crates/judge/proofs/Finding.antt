@@ -42,6 +42,3 @@ module _ (over : List ℕ) (h : List Event) (start c w : ℕ) where
   pub at-some : (n : ℕ) (e : Event) → Some e ≡ event_at h n → passing n ≡ passed n e
   at-some zero e a = absurd (none-not-some (sym (at_none h 0 (inl refl)) ∙ sym a))
   at-some (suc n) e a = ap (λ (o : Option Event). current over (suc n) (writer_in c o) && brings_in o w) (sym a)
-
-  pub at-none : (n : ℕ) → None ≡ event_at h (suc n) → passing (suc n) ≡ false
-  at-none n a = ap (λ (o : Option Event). current over (suc n) (writer_in c o) && brings_in o w) (sym a)

@@ -5,4 +5,3 @@ pub mod Legals
 pub mod Owners
 pub mod Sight
 pub mod Tests
-pub mod Writes
