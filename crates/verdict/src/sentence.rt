@@ -19,6 +19,7 @@ pub fn tell(rt: &HostRuntime, verdict: Verdict, log: &[u8]) -> io::Result<()> {
     }
 }
 
+// No `Display` of `Fault`: the sentences are of a log, and a run has faults too.
 fn tell_fault(rt: &HostRuntime, fault: Fault) -> io::Result<()> {
     let Fault {
         refusal,
