@@ -1,6 +1,7 @@
 use super::event::{Action, Event};
 
 // One step of a run: what a board does to a cell, or the landing of one write back, which is the path's own choice.
+// Board and cell stand as two numbers here and in every public call, as a log and the station firmware have them.
 #[derive(Clone, Copy, PartialEq, Eq, Debug)]
 pub enum Step {
     Read { board: u32, cell: u32 },
