@@ -66,6 +66,7 @@ impl Path for FirstCome {
         self.waiting.land()
     }
 
+    // The table answers, in each path: a default in the trait would need one more call, for the table.
     fn newest(&self, board: u32, cell: u32) -> Result<Option<Carry>, Refusal> {
         self.waiting.newest(board, cell)
     }

@@ -11,7 +11,7 @@ pub enum Order {
     Land,
 }
 
-// What it answers.
+// What it answers: one type for a start and a landing, since a run writes both into one list.
 #[derive(Clone, Copy, PartialEq, Eq, Debug)]
 pub enum Reply {
     Started,

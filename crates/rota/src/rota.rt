@@ -115,6 +115,7 @@ impl Path for Rota {
         self.waiting.land_of(TURNS[turn])
     }
 
+    // The table answers, in each path: a default in the trait would need one more call, for the table.
     fn newest(&self, board: u32, cell: u32) -> Result<Option<Carry>, Refusal> {
         self.waiting.newest(board, cell)
     }
