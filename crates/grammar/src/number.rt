@@ -1,8 +1,9 @@
 ghost use Rattle.std.specs.Prelude.{◌≡◌, ◌≤◌};
 ghost use Rattle.std.specs.Option.{option_map};
-ghost use Rattle.grammar.specs.Numbers.{parted, digits, number as number_of, dot as dot_of, whole as whole_of, place as place_of, place_alone, place_word};
+ghost use Rattle.grammar.specs.Numbers.{parted, digits, alone, number as number_of, dot as dot_of, whole as whole_of, place as place_of, place_alone, place_word};
 
-// Goes on after the digits that gave `start`.
+// Goes on after the digits that gave `start`. A loop, which ends at the digit that makes the number too large; `position`
+// and a fold over what stands before it would walk over the digits twice.
 fn more_digits(start: u32, s: &[u8]) -> Option<(u32, &[u8])>
     ensures { parted result ≡ digits start s.now }
 {
@@ -35,14 +36,20 @@ fn dot(s: &[u8]) -> Option<&[u8]>
     }
 }
 
-// A number and nothing after it.
+// A value and nothing after it.
+fn alone<T: Drop>(read: Option<(T, &[u8])>) -> Option<T>
+    ensures { result ≡ alone (parted read.entry) }
+{
+    match read {
+        Some((value, [])) => Some(value),
+        _ => None,
+    }
+}
+
 pub(crate) fn whole(s: &[u8]) -> Option<u32>
     ensures { result ≡ whole_of s.now }
 {
-    match number(s) {
-        Some((n, [])) => Some(n),
-        _ => None,
-    }
+    alone(number(s))
 }
 
 fn place(s: &[u8]) -> Option<((u32, u32), &[u8])>
@@ -57,10 +64,7 @@ fn place(s: &[u8]) -> Option<((u32, u32), &[u8])>
 pub(crate) fn place_alone(s: &[u8]) -> Option<(u32, u32)>
     ensures { result ≡ place_alone s.now }
 {
-    match place(s) {
-        Some((place, [])) => Some(place),
-        _ => None,
-    }
+    alone(place(s))
 }
 
 // board.cell.word
