@@ -1,11 +1,21 @@
 ghost use Rattle.std.specs.Prelude.{◌≡◌, Some};
+ghost use Rattle.std.specs.Option.{option_map};
 ghost use Rattle.grammar.specs.Fields.{kind_of, kind_said, number_after, ranged as ranged_to, number_said};
-ghost use Rattle.grammar.specs.Pieces.{shown};
+ghost use Rattle.grammar.specs.Pieces.{shown, field_of};
 
 use super::item::Item;
 use super::kind::Kind;
 use super::number::whole;
 use model::refusal::Refusal;
+
+fn field_of(item: Item<'_>) -> Option<&[u8]>
+    ensures { option_map (λ x. x.now) result ≡ field_of (shown item.entry) }
+{
+    match item {
+        Item::Field(line) => Some(line),
+        _ => None,
+    }
+}
 
 // The kind that the first header line names.
 fn kind_of(line: &[u8]) -> Option<Kind>
@@ -22,9 +32,10 @@ fn kind_of(line: &[u8]) -> Option<Kind>
 pub fn kind_said(kind: Kind, item: Item<'_>) -> Result<(), Refusal>
     ensures { result ≡ kind_said kind (Some (shown item.entry)) }
 {
-    match item {
-        Item::Field(line) if kind_of(line) == Some(kind) => Ok(()),
-        _ => Err(Refusal::MalformedLine),
+    if field_of(item).and_then(kind_of) == Some(kind) {
+        Ok(())
+    } else {
+        Err(Refusal::MalformedLine)
     }
 }
 
@@ -46,12 +57,10 @@ fn ranged(low: u32, high: u32, number: Option<u32>) -> Result<u32, Refusal>
     }
 }
 
-// The number of a header line whose name and equals sign are `front`.
+// The number of such a line if it is in range, or why not.
 pub fn number_said(front: &[u8], low: u32, high: u32, item: Item<'_>) -> Result<u32, Refusal>
     ensures { result ≡ number_said front.now low high (Some (shown item.entry)) }
 {
-    match item {
-        Item::Field(line) => ranged(low, high, number_after(front, line)),
-        _ => Err(Refusal::MalformedLine),
-    }
+    let number = field_of(item).and_then(|line| number_after(front, line));
+    ranged(low, high, number)
 }
