@@ -7,7 +7,6 @@ ghost use Rattle.text.specs.Telling.{left_from};
 
 use super::super::position::Position;
 use super::Reader;
-use super::lines::none_left;
 use grammar::item::Item;
 
 // The most bytes of a text that is read.
@@ -30,7 +29,7 @@ impl<'a> Reader<'a> {
     pub fn at_end(&self) -> bool
         ensures { result ≡ no_lines (lines_ahead self.now) }
     {
-        none_left(self.text, self.at.byte)
+        self.at.byte == self.text.len()
     }
 
     // The next line, a header field, a step or a remark. A line without an end or of no form is not passed.

@@ -1,8 +1,7 @@
-ghost use Rattle.std.specs.Prelude.{◌≡◌, ◌≤◌, ◌==◌, length, drop, position, OnSome};
+ghost use Rattle.std.specs.Prelude.{◌≡◌, ◌≤◌, ◌==◌, length, position, OnSome};
 ghost use Rattle.std.specs.Option.{option_map};
 ghost use Rattle.grammar.specs.Pieces.{shown};
-ghost use Rattle.text.specs.Lines.{lines};
-ghost use Rattle.text.specs.Readers.{lines_at, first_line, first_piece, no_lines, Further};
+ghost use Rattle.text.specs.Readers.{lines_at, first_line, first_piece, Further};
 
 use super::super::position::Position;
 use grammar::item::{Item, item_of};
@@ -14,7 +13,8 @@ fn line_end(s: &[u8]) -> Option<usize>
     s.iter().position(|byte| *byte == b'\n')
 }
 
-// The line at a position, which passes it; None where no byte 10 follows.
+// The line at a position, which passes it; None where no byte 10 follows. The text and the position come apart, since
+// the guard over a reader's position holds it meanwhile.
 fn take_line<'a>(text: &'a [u8], at: &mut Position) -> Option<&'a [u8]>
     requires short { length text.now ≤ 60000 }
     requires within { at.old.byte ≤ length text.now }
@@ -28,13 +28,6 @@ fn take_line<'a>(text: &'a [u8], at: &mut Position) -> Option<&'a [u8]>
     Some(&rest[..n])
 }
 
-pub(crate) fn none_left(text: &[u8], byte: usize) -> bool
-    requires { byte ≤ length text.now }
-    ensures { result ≡ no_lines (lines (drop byte text.now)) }
-{
-    byte == text.len()
-}
-
 // The same line by its form; None also where it has none.
 pub(crate) fn take_item<'a>(text: &'a [u8], at: &mut Position) -> Option<Item<'a>>
     requires short { length text.now ≤ 60000 }
@@ -43,6 +36,5 @@ pub(crate) fn take_item<'a>(text: &'a [u8], at: &mut Position) -> Option<Item<'a
     ensures item { option_map shown result ≡ first_piece (lines_at text.now at.old) }
     ensures further { OnSome result (Further text.now at.old at.new) }
 {
-    let line = take_line(text, at)?;
-    item_of(line)
+    take_line(text, at).and_then(item_of)
 }

@@ -7,7 +7,7 @@ use grammar::item::Item;
 use model::refusal::Refusal;
 
 impl Reader<'_> {
-    // Passes the next line if it is a remark.
+    // Passes the next line if it is a remark. The refusal only gives the line up: nobody is told of it.
     fn pass_remark(&mut self) -> bool
         ensures answer { result ≡ is_remark (first_piece (lines_ahead self.old)) }
         ensures at { MatchBool result (Passed self.old self.new) (Kept self.old self.new) }
