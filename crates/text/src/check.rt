@@ -11,8 +11,7 @@ use grammar::kind::Kind;
 
 // Takes every step that is left.
 fn walk(trace: &mut Trace<'_>) -> Result<(), Fault>
-    ensures answer { result ≡ ending (course_of trace.old) }
-    ensures header { trace.new.header ≡ trace.old.header }
+    ensures { result ≡ ending (course_of trace.old) }
 {
     while trace.next()?.is_some() {}
     Ok(())
@@ -30,6 +29,7 @@ pub fn check(kind: Kind, text: &[u8]) -> Result<Header, Fault>
 {
     reads_back();
     let mut trace = Trace::open(kind, text);
+    let header = trace.header()?;
     walk(&mut trace)?;
-    trace.header()
+    Ok(header)
 }

@@ -50,6 +50,7 @@ impl<'a> Trace<'a> {
         self.next_step()
     }
 
+    // Not by `next_line`: the end is seen only once remarks are passed, and it would look for one at each step again.
     fn next_step(&mut self) -> Result<Option<PlacedStep>, Fault>
         ensures answer { result ≡ next_of (steps_of self.old) }
         ensures after { steps_of self.new ≡ rest (steps_of self.old) }
