@@ -23,7 +23,7 @@ pub fn show(rt: &impl Print) -> io::Result<()> {
     tell(rt, &memory)?;
     write(rt, &mut memory, 64, 700)?;
     read(rt, &memory, 64)?;
-    read(rt, &memory, 4_294_967_295)?;
+    read(rt, &memory, u32::MAX)?;
     tell(rt, &memory)
 }
 

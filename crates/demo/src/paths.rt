@@ -39,7 +39,8 @@ fn start<P: Path>(rt: &impl Print, path: &mut P, carry: Carry) -> io::Result<()>
     }
 }
 
-// No path holds more than 64 carries, eight of each board.
+// No path holds more than 64 carries, eight of each board. The bound ends the loop: a `while let` would want a proof, of
+// any path, that each landing leaves fewer.
 fn land_all<P: Path>(rt: &impl Print, path: &mut P) -> io::Result<()> {
     let mut home = PairHome::new(64, 0);
     for _ in 0..64 {

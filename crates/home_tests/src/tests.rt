@@ -19,7 +19,7 @@ fn unread_outside<S: Source>(rt: &impl Abort, source: &S, size: u32) {
     assert_eq!(rt; source.read(size), NONE);
     assert_eq!(rt; source.read(past), NONE);
     assert_eq!(rt; source.read(65_536), NONE);
-    assert_eq!(rt; source.read(4_294_967_295), NONE);
+    assert_eq!(rt; source.read(u32::MAX), NONE);
 }
 
 // So is a write, and then neither the size nor any word has changed.
@@ -29,7 +29,7 @@ fn unwritten_outside<H: Home>(rt: &impl Abort, home: &mut H, words: &[u32]) {
     assert_eq!(rt; home.write(size, 7), REFUSED);
     assert_eq!(rt; home.write(past, 7), REFUSED);
     assert_eq!(rt; home.write(65_536, 7), REFUSED);
-    assert_eq!(rt; home.write(4_294_967_295, 7), REFUSED);
+    assert_eq!(rt; home.write(u32::MAX, 7), REFUSED);
     same_words(rt, home, words);
     unread_outside(rt, home, size);
 }
@@ -43,9 +43,9 @@ fn same_words<S: Source>(rt: &impl Abort, source: &S, words: &[u32]) {
 
 #[test]
 fn a_word_home_has_the_callers_words(rt: HostRuntime) {
-    let mut list = [5, 6, 4_294_967_295];
+    let mut list = [5, 6, u32::MAX];
     let mut home = WordHome::new(&mut list);
-    unwritten_outside(&rt, &mut home, &[5, 6, 4_294_967_295]);
+    unwritten_outside(&rt, &mut home, &[5, 6, u32::MAX]);
     assert_eq!(rt; home.write(2, 9), Ok(()));
     unwritten_outside(&rt, &mut home, &[5, 6, 9]);
     assert_eq!(rt; home.write(0, 0), Ok(()));
@@ -85,7 +85,7 @@ fn the_callers_list_holds_what_was_written(rt: HostRuntime) {
 fn a_pair_home_has_at_most_64_cells(rt: HostRuntime) {
     unwritten_outside(&rt, &mut PairHome::new(0, 3), &[]);
     unwritten_outside(&rt, &mut PairHome::new(65, 3), &[]);
-    unwritten_outside(&rt, &mut PairHome::new(4_294_967_295, 3), &[]);
+    unwritten_outside(&rt, &mut PairHome::new(u32::MAX, 3), &[]);
     unwritten_outside(&rt, &mut PairHome::new(64, 3), &[3; 64]);
 }
 
@@ -118,7 +118,7 @@ fn an_image_counts_whole_words(rt: HostRuntime) {
     }
     let image = FrozenImage::new(&[0, 0, 0, 1, 0xff, 0xff, 0xff, 0xff]);
     unread_outside(&rt, &image, 2);
-    same_words(&rt, &image, &[1, 4_294_967_295]);
+    same_words(&rt, &image, &[1, u32::MAX]);
 }
 
 #[test]

@@ -13,8 +13,6 @@ mod tests {
     use std::process::Abort;
     use std::test::Fail;
 
-    const LARGEST: u32 = 4_294_967_295;
-
     fn carry(board: u32, cell: u32, word: u32) -> Carry {
         Carry { board, cell, word }
     }
@@ -33,8 +31,8 @@ mod tests {
         let second = carry(7, 0, 2);
         path.start(first)?;
         path.start(second)?;
-        for board in [8, LARGEST] {
-            for cell in [63, 64, LARGEST] {
+        for board in [8, u32::MAX] {
+            for cell in [63, 64, u32::MAX] {
                 assert_eq!(rt;
                     path.start(carry(board, cell, 3)),
                     Err(Refusal::NoSuchBoard)
@@ -43,7 +41,7 @@ mod tests {
             }
             assert_eq!(rt; path.count(board), Err(Refusal::NoSuchBoard));
         }
-        for cell in [64, LARGEST] {
+        for cell in [64, u32::MAX] {
             assert_eq!(rt; path.start(carry(7, cell, 3)), Err(Refusal::NoSuchCell));
             assert_eq!(rt; path.newest(7, cell), Err(Refusal::NoSuchCell));
         }

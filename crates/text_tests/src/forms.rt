@@ -1,11 +1,9 @@
-use super::first_fault::fault_in;
+use super::first_fault::{LOG, fault_in};
 use grammar::kind::Kind;
 use std::alloc::Global;
 use std::test::Fail;
 
 const RUN: &[u8] = b"trace=run\nboards=2\ncells=1\nentries=1\nstart=0\n";
-
-const LOG: &[u8] = b"trace=log\nboards=2\ncells=1\nentries=1\nstart=0\n";
 
 // Whether a line is a step of a trace of that kind.
 fn is_step(heap: Global, kind: Kind, line: &[u8]) -> Result<bool, Fail> {

@@ -1,12 +1,10 @@
-use super::first_fault::fault_in;
+use super::first_fault::{LOG, fault_in};
 use grammar::kind::Kind;
 use std::alloc::Global;
 use std::io;
 use std::io::Read;
 use std::test::Fail;
 use text::input::read_text;
-
-const LOG: &[u8] = b"trace=log\nboards=2\ncells=1\nentries=1\nstart=0\n";
 
 // A log of so many steps, and then one more line.
 fn steps(heap: Global, count: u32, last: &[u8]) -> Result<Vec<u8>, Fail> {
