@@ -24,14 +24,26 @@ fn written_by(event: Event, cell: u32) -> Option<usize>
     writes.then_some(event.board as usize)
 }
 
-// Whether an event of that number is a write of the word to the cell that is not overwritten.
-fn passes(event: Event, number: u32, over: &[u32; WRITERS], cell: u32, word: u32) -> bool
-    requires { event.board < 8 }
-    ensures { result ≡ (current over.now number (writer_in cell (Some event)) && brings_by event.action word) }
-{
-    event.cell == cell
-        && event.action == Action::Write(word)
-        && over[event.board as usize] <= number
+// What is asked for: a write of the word to the cell, which starts with the word `start` and whose writers' writes are
+// overwritten below the numbers in `over`.
+#[derive(Drop)]
+pub(crate) struct Wanted {
+    pub cell: u32,
+    pub word: u32,
+    pub start: u32,
+    pub over: [u32; WRITERS],
+}
+
+impl Wanted {
+    // Whether an event of that number is such a write and is not overwritten.
+    fn met_by(&self, event: Event, number: u32) -> bool
+        requires { event.board < 8 }
+        ensures { result ≡ (current self.now.over number (writer_in self.now.cell (Some event)) && brings_by event.action self.now.word) }
+    {
+        event.cell == self.cell
+            && event.action == Action::Write(self.word)
+            && self.over[event.board as usize] <= number
+    }
 }
 
 impl<'a> History<'a> {
@@ -69,6 +81,7 @@ impl<'a> History<'a> {
         requires { board < 8 }
         ensures { result ≡ bounds self.entry.events.now cell board }
     {
+        // No `map_or`: its closure isn't told that the place is one of the list.
         match self.latest(board, cell) {
             Some(place) => self.up_to(place).survey(cell).boards[board as usize].over,
             None => [0; WRITERS],
@@ -94,35 +107,22 @@ impl<'a> History<'a> {
         written_by(self.event_at(number)?, cell)
     }
 
-    // Whether that is the number of a write of the word to the cell that is not overwritten.
-    fn is_current(
-        self,
-        number: u32,
-        over: &[u32; WRITERS],
-        start: u32,
-        cell: u32,
-        word: u32,
-    ) -> bool
-        ensures { result ≡ (current over.now number (writer_of self.entry.events.now cell number) && brings self.entry.events.now start number word) }
+    // Whether that is the number of such a write that is not overwritten.
+    fn is_current(self, number: u32, wanted: &Wanted) -> bool
+        ensures { result ≡ (current wanted.now.over number (writer_of self.entry.events.now wanted.now.cell number) && brings self.entry.events.now wanted.now.start number wanted.now.word) }
     {
         match self.event_at(number) {
-            Some(event) => passes(event, number, over, cell, word),
-            None => number == 0 && over[NO_BOARD] == 0 && start == word,
+            Some(event) => wanted.met_by(event, number),
+            None => number == 0 && wanted.over[NO_BOARD] == 0 && wanted.start == wanted.word,
         }
     }
 
-    // The highest-numbered write of the word to the cell that is not overwritten.
-    pub fn highest_legal(
-        self,
-        over: &[u32; WRITERS],
-        start: u32,
-        cell: u32,
-        word: u32,
-    ) -> Option<u32>
-        ensures { result ≡ legal_under over.now self.entry.events.now start cell word }
+    // The highest-numbered such write that is not overwritten.
+    pub fn highest_legal(self, wanted: &Wanted) -> Option<u32>
+        ensures { result ≡ legal_under wanted.now.over self.entry.events.now wanted.now.start wanted.now.cell wanted.now.word }
     {
         (0..=self.events.len() as u32)
             .rev()
-            .find(|&number| self.is_current(number, over, start, cell, word))
+            .find(|&number| self.is_current(number, wanted))
     }
 }

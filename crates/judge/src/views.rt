@@ -8,6 +8,7 @@ use order::view::{NO_BOARD, View, Views, WRITERS};
 fn greater(mut a: [u32; WRITERS], b: [u32; WRITERS]) -> [u32; WRITERS]
     ensures { result ≡ later a b }
 {
+    // By index: the proof doesn't know after a `zip` what was written, nor of `array::from_fn` that each call read these two.
     for (i, bound) in a.iter_mut().enumerate() {
         *bound = (*bound).max(b[i]);
     }
@@ -40,7 +41,8 @@ pub(crate) fn initial() -> Views
     }
 }
 
-// After a write by the board: what was known is overwritten, and the write itself is known.
+// After a write by the board: what was known is overwritten, and the write itself is known. Boards and numbers are `u32` in
+// all calls, so the bounds are asked for here and not held by types of their own.
 fn written(view: View, board: usize, number: u32) -> View
     requires board { board < 8 }
     requires number { number ≤ 2048 }

@@ -4,7 +4,7 @@ use judge::judge::{Judge, MOST_EVENTS};
 use model::event::{Action, Event};
 use model::refusal::Refusal;
 
-const MOST: u32 = 4_294_967_295;
+const MOST: u32 = u32::MAX;
 
 // One cell that starts with the word 0.
 const ONE_CELL: Flat = Flat { cells: 1, word: 0 };

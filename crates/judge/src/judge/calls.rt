@@ -7,7 +7,7 @@ ghost use Rattle.judge.specs.Examples.{Examples};
 ghost use Rattle.judge.specs.Judging.{history_of, room_of, standing, allowed, admitted, note_answer, extended, placed, readable_answer, legal_answer};
 
 use super::{Judge, MOST_EVENTS};
-use crate::history::History;
+use crate::history::{History, Wanted};
 use home::source::Source;
 use model::event::{Action, Event};
 use model::refusal::Refusal;
@@ -44,6 +44,16 @@ fn allow(owner: Option<u32>, board: u32, action: Action) -> Result<(), Refusal>
     }
 }
 
+// Runs no code: it states what the answers decide of every history, in the words of the memory model.
+fn decided()
+    ensures owner { OwnerDecided }
+    ensures discipline { DisciplineDecided }
+    ensures laws { LawsOfOrder }
+    ensures readable { ReadableDecided }
+    ensures legal { LegalDecided }
+    ensures examples { Examples }
+{}
+
 // The word that the cell started with.
 fn starting_word<S: Source>(source: &S, cell: u32) -> u32
     ensures { result ≡ slice_index (S.Source.words source.now) cell }
@@ -61,16 +71,9 @@ impl<'a> Judge<'a> {
         Judge { list, noted: 0 }
     }
 
-    // The events noted so far, with what holds of every history.
+    // The events noted so far.
     fn history(&self) -> History<'_>
-        ensures value { result.events.now ≡ history_of self.now }
-        ensures boards { on_boards (history_of self.now) ≡ true }
-        ensures owner { OwnerDecided }
-        ensures discipline { DisciplineDecided }
-        ensures laws { LawsOfOrder }
-        ensures readable { ReadableDecided }
-        ensures legal { LegalDecided }
-        ensures examples { Examples }
+        ensures { result.events.now ≡ history_of self.now }
     {
         History {
             events: &self.list[..self.noted],
@@ -103,9 +106,6 @@ impl<'a> Judge<'a> {
         ensures answer { result ≡ admitted (history_of self.now) (room_of self.now) boards cells event }
         ensures board { OnOk result (event.board < 8) }
         ensures room { OnOk result (length (history_of self.now) < room_of self.now) }
-        ensures owner { OwnerDecided }
-        ensures discipline { DisciplineDecided }
-        ensures laws { LawsOfOrder }
     {
         let history = self.history();
         standing_on(boards, cells, event.board, event.cell)?;
@@ -126,6 +126,7 @@ impl<'a> Judge<'a> {
         ensures discipline { DisciplineDecided }
         ensures laws { LawsOfOrder }
     {
+        decided();
         self.admit(boards, source.size(), event)?;
         Ok(self.push(event))
     }
@@ -143,13 +144,15 @@ impl<'a> Judge<'a> {
         ensures boards { on_boards (history_of self.now) ≡ true }
         ensures decided { ReadableDecided }
     {
+        decided();
         let history = self.history();
         standing_on(boards, source.size(), board, cell)?;
         let writer = history.writer_of(cell, number).ok_or(Refusal::NotAWrite)?;
         Ok(history.overwritten(board, cell)[writer] <= number)
     }
 
-    // The highest-numbered write of the word that the board may read on the cell, if there is one.
+    // The highest-numbered write of the word that the board may read on the cell, if there is one. The initial write's number
+    // is 0, and no case of its own: writes are known to callers by their numbers alone.
     pub fn legal<S: Source>(
         &self,
         boards: u32,
@@ -163,9 +166,15 @@ impl<'a> Judge<'a> {
         ensures decided { LegalDecided }
         ensures examples { Examples }
     {
+        decided();
         let history = self.history();
         standing_on(boards, source.size(), board, cell)?;
-        let over = history.overwritten(board, cell);
-        Ok(history.highest_legal(&over, starting_word(source, cell), cell, word))
+        let wanted = Wanted {
+            cell,
+            word,
+            start: starting_word(source, cell),
+            over: history.overwritten(board, cell),
+        };
+        Ok(history.highest_legal(&wanted))
     }
 }

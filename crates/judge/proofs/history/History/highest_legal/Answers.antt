@@ -10,9 +10,10 @@ pub returns : goal.returns
 unfolding legal_under
 returns c =
     let h = c.args.self.events.now in
+    let w = c.args.wanted.now in
     let n : ℕ = length h in
-    let some : List ℕ = c.args.over.now in
-    let pass : ℕ → Bool = passing c.args.over.now h c.args.start c.args.cell c.args.word in
+    let some : List ℕ = w.over in
+    let pass : ℕ → Bool = passing w.over h w.start w.cell w.word in
     let none : c.find.result ≡ None → (k : ℕ) → k < n + 1 → pass k ≡ false = λ e k l. let read : get_or some k 0 ≡ get_or some k 0 = refl in grind (ranges, common_steps, arith) in
     let within : (m : ℕ) → c.find.result ≡ Some m → m < n + 1 = λ m e. search (rules, ranges) in
     let passes : (m : ℕ) → c.find.result ≡ Some m → pass m ≡ true = λ m e. search (rules, ranges) in
