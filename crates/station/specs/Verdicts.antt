@@ -62,11 +62,6 @@ abbrev pub end_of : Option Fault → Verdict
 end_of None = AllLegal
 end_of (Some f) = Faulty f
 
--- a fault is a verdict too
-abbrev pub verdict_by : Result Verdict Fault → Verdict
-verdict_by (Ok v) = v
-verdict_by (Err f) = Faulty f
-
 -- ── the whole text ──
 
 -- a fault of the text or its header goes first
