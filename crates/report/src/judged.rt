@@ -42,7 +42,8 @@ fn note(hearing: &mut Hearing<'_, PairHome>, event: Option<Event>)
     }
 }
 
-// The first step that read wrongly, after the events that the judge has noted.
+// The first step that read wrongly, after the events that the judge has noted. Steps and answers are two lists, as the caller
+// lends them.
 fn first_from(
     hearing: &mut Hearing<'_, PairHome>,
     steps: &[Step],
@@ -51,12 +52,11 @@ fn first_from(
     requires { length steps.now ≤ length answers.now }
     ensures { result ≡ first_wrong hearing.old.boards hearing.old.words 1 hearing.old.history steps.now answers.now }
 {
-    for (i, step) in steps.iter().enumerate() {
-        let answer = answers[i];
-        if read_wrongly(hearing, *step, answer) {
+    for (i, (step, answer)) in steps.iter().zip(answers).enumerate() {
+        if read_wrongly(hearing, *step, *answer) {
             return Some(i + 1);
         }
-        note(hearing, event_of(*step, answer));
+        note(hearing, event_of(*step, *answer));
     }
     None
 }

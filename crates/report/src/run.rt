@@ -1,5 +1,4 @@
 ghost use Rattle.std.specs.Prelude.{◌≡◌, IfOk, string_bytes, replicate};
-ghost use Rattle.home.specs.Buffer.{overlay};
 ghost use Rattle.home.specs.PairHome.{size_for, words_of};
 ghost use Rattle.text.specs.Printing.{InRange, text_of};
 ghost use Rattle.report.specs.Output.{answers_to, run_lines};
@@ -15,13 +14,6 @@ use rules::replay::replay;
 use std::alloc::{AllocError, Global};
 use text::header::Header;
 
-// The memory of a bench: one buffer over a pair home.
-fn memory(header: Header) -> HoldingBuffer<PairHome>
-    ensures { overlay (words_of result.below) result.places ≡ replicate (size_for header.cells) header.start }
-{
-    HoldingBuffer::new(PairHome::new(header.cells, header.start))
-}
-
 // The steps of a run without a fault, and its header.
 #[derive(Clone, Copy)]
 pub(crate) struct BenchRun<'a> {
@@ -31,6 +23,13 @@ pub(crate) struct BenchRun<'a> {
 }
 
 impl BenchRun<'_> {
+    // A home in which each cell has its starting word.
+    fn home(&self) -> PairHome
+        ensures { words_of result ≡ replicate (size_for self.now.header.cells) self.now.header.start }
+    {
+        PairHome::new(self.header.cells, self.header.start)
+    }
+
     // What the steps answer, on a bench of the header's size.
     fn answers(&self, heap: Global) -> Result<Vec<Answer>, AllocError>
         ensures { IfOk result (λ v. v.items ≡ answers_to self.now.header self.now.steps.now) }
@@ -39,7 +38,7 @@ impl BenchRun<'_> {
         let _ = replay(
             self.header.boards,
             self.header.entries,
-            memory(self.header),
+            HoldingBuffer::new(self.home()),
             FirstCome::new(),
             self.steps,
             answers.as_mut_slice(),
@@ -52,7 +51,7 @@ impl BenchRun<'_> {
         ensures { IfOk result (λ t. string_bytes t ≡ text_of (run_lines self.now.header self.now.steps.now)) }
     {
         let answers = self.answers(heap)?;
-        let home = PairHome::new(self.header.cells, self.header.start);
+        let home = self.home();
         let wrong = first_wrong(self.header.boards, &home, self.steps, answers.as_slice());
         run_text(heap, answers.as_slice(), wrong)
     }
