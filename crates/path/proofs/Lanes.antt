@@ -1,10 +1,10 @@
 -- In each lane a run lands the carries in the order in which they were started.
-use Rattle.std.proofs.Common.{◌≡◌, ℕ, ◌+◌, ◌<◌, ◌≤◌, false, eqb, ◌≢◌, List, [], ◌∷◌, ◌++◌, length, get_or, take, set, Some, Ok, Err, filter, Result, sym, refl, ap, ◌∙◌, subst, ⊎_elim, arith}
+use Rattle.std.proofs.Common.{◌≡◌, ℕ, ◌+◌, ◌<◌, ◌≤◌, true, false, ◌≢◌, List, [], ◌∷◌, ◌++◌, length, get_or, take, set, Some, Ok, Err, filter, Result, sym, refl, ap, ◌∙◌, subst, ⊎_elim, arith}
 use Rattle.std.proofs.lemmas.List.Elements.{filter-append}
 use Rattle.std.proofs.lemmas.List.{take_more, take_more_set, length-set, get_or-set_same, get_or-set_other, get_or_past, append-nil, append_assoc}
 use Rattle.std.proofs.lemmas.Bool.Decides.{nat_tests}
 use Rattle.std.proofs.lemmas.Grind.{common_steps}
-use Rattle.std.proofs.lemmas.Bool.{cases_eq, cases_lt, cond-true, cond-false, and_from, eq-eqb}
+use Rattle.std.proofs.lemmas.Bool.{cases_eq, cases_lt, cond-true, cond-false}
 use Rattle.model.specs.declared.carry.Carry.{Carry}
 use Rattle.model.specs.declared.refusal.Refusal.{Refusal}
 use Rattle.carries.specs.Lines.{line, of_lane, lane, oldest, joined, start_at, if_started, without}
@@ -15,11 +15,15 @@ use Rattle.path.specs.declared.order.Order.TheVariants.{Start, Land}
 use Rattle.path.specs.declared.order.Reply.{Reply}
 use Rattle.path.specs.declared.order.Reply.TheVariants.{Started, Refused, Landed, NothingWaits}
 
--- a carry of another board or of another cell is not of the lane
-other-board : (b c : ℕ) (x : Carry) → b ≢ x.board → of_lane b c x ≡ false
+-- a carry is of its own lane
+pub of-itself : (x : Carry) → of_lane x.board x.cell x ≡ true
+of-itself x = grind (arith, nat_tests)
+
+-- a carry of another board or of another cell is not
+pub other-board : (b c : ℕ) (x : Carry) → b ≢ x.board → of_lane b c x ≡ false
 other-board b c x ne = grind (arith, nat_tests)
 
-other-cell : (b c : ℕ) (x : Carry) → c ≢ x.cell → of_lane b c x ≡ false
+pub other-cell : (b c : ℕ) (x : Carry) → c ≢ x.cell → of_lane b c x ≡ false
 other-cell b c x ne = grind (arith, nat_tests)
 
 kept-none : (b c : ℕ) (x : Carry) → of_lane b c x ≡ false → filter (of_lane b c) (x ∷ []) ≡ []
@@ -69,10 +73,9 @@ module _ (ls ls' : List (List Carry)) (x : Carry) (l : lines.Landed ls (Some x) 
   own_lane =
       let k = x.board in
       let d = x.cell in
-      let is = and_from (eqb k k) (eqb d d) (eq-eqb k k refl) (eq-eqb d d refl) in
       without-same k d (line ls k) x l.0
       ∙ ap (λ m. x ∷ m) (sym (ap (λ s. lane s k d) l.1 ∙ lane-set-same ls k less d (inside ls x l.0)))
-      ∙ ap (λ m. m ++ lane ls' k d) (sym (cond-true (of_lane k d x) (x ∷ []) [] is))
+      ∙ ap (λ m. m ++ lane ls' k d) (sym (cond-true (of_lane k d x) (x ∷ []) [] (of-itself x)))
 
   same_line : (c : ℕ) → c ≢ x.cell → lane ls x.board c ≡ filter (of_lane x.board c) (x ∷ []) ++ lane ls' x.board c
   same_line c ne =

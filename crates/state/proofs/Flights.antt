@@ -1,8 +1,8 @@
 -- One carry started or landed: what is then in each lane, and that the lines stay proper.
-use Rattle.std.proofs.Common.{◌≡◌, ℕ, ◌<◌, ◌≤◌, Bool, true, false, cond, eqb, ltb, ◌≢◌, List, [], ◌∷◌, ◌++◌, length, set, Some, Ok, Err, filter, Result, sym, refl, ap, ◌∙◌, subst, ⊎_elim, arith}
+use Rattle.std.proofs.Common.{◌≡◌, ℕ, ◌<◌, ◌≤◌, Bool, true, false, cond, eqb, ltb, List, [], ◌∷◌, ◌++◌, length, set, Some, Ok, Err, filter, Result, sym, refl, ap, ◌∙◌, subst, ⊎_elim, arith}
 use Rattle.std.proofs.ByRecursion.{All-push, kept_by_passes}
 use Rattle.std.proofs.lemmas.List.{append-nil, length_push, length-set, get_or-set_same, get_or-set_other, set_past}
-use Rattle.std.proofs.lemmas.Bool.{cases_eq, cases_lt, cond-true, cond-false, cond_both, and_parts, and_from, and_left, and_right, eq-eqb, ne_eqb, eqb-true, ltb-false, le-ltb}
+use Rattle.std.proofs.lemmas.Bool.{cases_eq, cases_lt, cond-true, cond-false, cond_both, and_parts, eqb-true, ltb-false, le-ltb}
 use Rattle.std.proofs.lemmas.Bool.Decides.{nat_tests}
 use Rattle.std.specs.List.{AllByRecursion}
 use Rattle.model.specs.declared.carry.Carry.{Carry}
@@ -11,18 +11,7 @@ use Rattle.carries.specs.Lines.{line, of_lane, lane, oldest, joined, start_at, i
 use Rattle.path.specs.Runs.{start_reply, end, then}
 use Rattle.path.specs.declared.order.Order.TheVariants.{Start, Land}
 use Rattle.path.specs.declared.order.Reply.TheVariants.{Started, Landed}
-use Rattle.path.proofs.Lanes.{in_order}
-
--- which lane a carry is of
-
-of-itself : (x : Carry) → of_lane x.board x.cell x ≡ true
-of-itself x = and_from (eqb x.board x.board) (eqb x.cell x.cell) (eq-eqb x.board x.board refl) (eq-eqb x.cell x.cell refl)
-
-pub other-board : (b c : ℕ) (x : Carry) → b ≢ x.board → of_lane b c x ≡ false
-other-board b c x ne = and_left (eqb x.board b) (eqb x.cell c) (ne_eqb x.board b (λ e. ne (sym e)))
-
-pub other-cell : (b c : ℕ) (x : Carry) → c ≢ x.cell → of_lane b c x ≡ false
-other-cell b c x ne = and_right (eqb x.board b) (eqb x.cell c) (ne_eqb x.cell c (λ e. ne (sym e)))
+use Rattle.path.proofs.Lanes.{of-itself, in_order}
 
 -- the oldest of a lane is of that lane
 pub heads-own : (ls : List (List Carry)) (b c : ℕ) (x : Carry) → oldest (lane ls b c) ≡ Some x → oldest (lane ls x.board x.cell) ≡ Some x

@@ -17,7 +17,8 @@ use Rattle.state.specs.Laws.{FollowsProtocol}
 use Rattle.state.specs.Sound.{Sound}
 use Rattle.state.specs.States.{State, cache_of, owner_of, word_of, with_owner}
 use Rattle.state.specs.Steps.{carry_of, landed}
-use Rattle.state.proofs.Flights.{other-board, other-cell, lane-joined, lane-as-it-was, lane-left, lane-untouched}
+use Rattle.path.proofs.Lanes.{other-board, other-cell}
+use Rattle.state.proofs.Flights.{lane-joined, lane-as-it-was, lane-left, lane-untouched}
 use Rattle.state.proofs.Kept.{cache-of, board-in, sound-puts}
 use Rattle.state.proofs.Stores.{entered}
 use Rattle.state.proofs.Ways.{Puts, stays, stores, Sends, quietly, carrying, Way, refusing, reading, writing, acquiring, releasing, writing_back, ejecting, landing, idling, way}
