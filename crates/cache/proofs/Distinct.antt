@@ -1,30 +1,17 @@
 -- One place changed leaves each cell in one place.
-use Rattle.std.proofs.Common.{◌≡◌, ℕ, suc, ◌<◌, true, eqb, ◌≢◌, List, ◌∷◌, length, get_or, set, sym, ◌∙◌, ⊎_elim, arith}
+use Rattle.std.proofs.Common.{◌≡◌, ℕ, suc, ◌<◌, true, ◌≢◌, List, ◌∷◌, length, get_or, set, sym, ◌∙◌, ⊎_elim, arith}
 use Rattle.std.proofs.lemmas.List.{get_or-set_same, get_or-set_other}
-use Rattle.std.proofs.lemmas.Bool.{cases_eq, eqb-true}
+use Rattle.std.proofs.lemmas.Bool.{cases_eq}
 use Rattle.std.proofs.lemmas.Bool.Decides.{nat_tests}
 use Rattle.cache.specs.Places.{holds, clash, Distinct}
 use Rattle.cache.specs.declared.place.Place.{Place}
-use Rattle.cache.specs.declared.place.Place.TheVariants.{Empty, Clean, Dirty}
-
-eqb_swap : (a b : ℕ) → eqb a b ≡ true → eqb b a ≡ true
-eqb_swap a b e = grind (arith, nat_tests)
+use Rattle.cache.specs.declared.place.Place.TheVariants.{Empty}
 
 clash-swap : (p q : Place) → clash p q ≡ true → clash q p ≡ true
-clash-swap Empty Empty e = e
-clash-swap Empty (Clean c w) e = grind arith
-clash-swap Empty (Dirty c w) e = grind arith
-clash-swap (Clean c w) Empty e = grind arith
-clash-swap (Clean c w) (Clean d v) e = eqb_swap d c e
-clash-swap (Clean c w) (Dirty d v) e = eqb_swap d c e
-clash-swap (Dirty c w) Empty e = grind arith
-clash-swap (Dirty c w) (Clean d v) e = eqb_swap d c e
-clash-swap (Dirty c w) (Dirty d v) e = eqb_swap d c e
+clash-swap p q e = grind (arith, nat_tests)
 
 pub both-clash : (p q : Place) (c : ℕ) → holds p c ≡ true → holds q c ≡ true → clash p q ≡ true
-both-clash Empty q c e f = grind arith
-both-clash (Clean d w) q c e f = rw (eqb-true d c e) f
-both-clash (Dirty d w) q c e f = rw (eqb-true d c e) f
+both-clash p q c e f = grind (arith, nat_tests)
 
 -- the cell of p stands in no place but i
 abbrev pub Fits : List Place → ℕ → Place → Type 0
