@@ -16,6 +16,7 @@ use Rattle.protocol.specs.Runs.{event_of}
 use Rattle.judge.specs.Judging.{after, standing, allowed, note_answer, extended, legal_answer}
 use Rattle.judge.proofs.Discipline.{disciplined-more}
 use Rattle.state.specs.States.{State}
+use Rattle.state.proofs.Lists.{all-parts}
 use Rattle.rules.specs.Logs.{Logged, onto, if_accepted, event_in, events, read_of}
 use Rattle.rules.specs.Rules.{OnBench, start_of, KeepsModel}
 use Rattle.report.specs.Judged.{noted, not_legal, read_wrongly, first_wrong, heard}
@@ -63,11 +64,6 @@ push-append h e es = append_assoc h (e ∷ []) es
 disciplined_front : (h es : List Event) → Disciplined (h ++ es) → Disciplined h
 disciplined_front h [] d = subst Disciplined (append-nil h) d
 disciplined_front h (e ∷ es) d = ((disciplined-more h e).0 (disciplined_front (more h e) es (subst Disciplined (sym (push-append h e es)) d))).0
-
--- what holds of all holds of each part
-all-parts : {X : Type 0} (P : X → Type 0) (xs ys : List X) → AllByRecursion P (xs ++ ys) → AllByRecursion P xs × AllByRecursion P ys
-all-parts P [] ys all = (tt, all)
-all-parts P (x ∷ xs) ys all = let rest = all-parts P xs ys all.1 in ((all.0, rest.0), rest.1)
 
 -- ── what the judge says, where the bench is in range ──
 

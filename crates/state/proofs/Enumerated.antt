@@ -25,7 +25,8 @@ use Rattle.state.proofs.Answered.{at_place, at_lane}
 use Rattle.state.proofs.Chains.{lists_answered}
 use Rattle.state.proofs.Flights.{heads-own}
 use Rattle.state.proofs.Kept.{cache-of, sound-kept}
-use Rattle.state.proofs.Opened.{all_alike, quiet-lines}
+use Rattle.state.proofs.Lists.{all-parts, all_alike}
+use Rattle.state.proofs.Opened.{quiet-lines}
 
 -- the choices that matter: the eight places where an entry is new, and the lanes where a carry waits
 
@@ -58,13 +59,9 @@ runs s (call ∷ calls) = gathered (λ o. continued o (λ t. runs t calls)) (out
 
 -- what holds of all of a list that is mapped or gathered
 
-all_left : {X : Type 0} (P : X → Type 0) (xs ys : List X) → AllByRecursion P (xs ++ ys) → AllByRecursion P xs × AllByRecursion P ys
-all_left P [] ys all = (tt, all)
-all_left P (x ∷ xs) ys all = let rest = all_left P xs ys all.1 in ((all.0, rest.0), rest.1)
-
 all-gathered : {X Y : Type 0} (P : Y → Type 0) (f : X → List Y) (xs : List X) → AllByRecursion P (gathered f xs) → AllByRecursion (λ x. AllByRecursion P (f x)) xs
 all-gathered P f [] all = tt
-all-gathered P f (x ∷ xs) all = let parts = all_left P (f x) (gathered f xs) all in (parts.0, all-gathered P f xs parts.1)
+all-gathered P f (x ∷ xs) all = let parts = all-parts P (f x) (gathered f xs) all in (parts.0, all-gathered P f xs parts.1)
 
 all-mapped : {X Y : Type 0} (P : Y → Type 0) (f : X → Y) (xs : List X) → AllByRecursion P (map f xs) → AllByRecursion (λ x. P (f x)) xs
 all-mapped P f [] all = tt

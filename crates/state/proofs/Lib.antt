@@ -5,6 +5,7 @@ pub mod Enumerated
 pub mod Flights
 pub mod Kept
 pub mod Laws
+pub mod Lists
 pub mod Opened
 pub mod Protocol
 pub mod Runs

@@ -1,7 +1,6 @@
 -- A bench is sound when it is opened; and what an accepted opening shows.
 use Rattle.std.proofs.Common.{◌≡◌, ℕ, zero, suc, ◌≤◌, Bool, true, false, cond, ◌&&◌, leb, List, [], ◌∷◌, length, get_or, replicate, Some, None, filter, Option, sym, refl, ap, ◌∙◌, subst, arith}
 use Rattle.std.proofs.lemmas.Bool.{both_ways, and_parts, leb-true}
-use Rattle.std.specs.List.{AllByRecursion}
 use Rattle.model.specs.declared.carry.Carry.{Carry}
 use Rattle.model.specs.declared.entry.Entry.{Entry}
 use Rattle.model.specs.declared.refusal.Refusal.{Refusal}
@@ -13,20 +12,12 @@ use Rattle.state.specs.Laws.{OpenedSound}
 use Rattle.state.specs.Opening.{quiet, between, refusal_of, opened_by, opened}
 use Rattle.state.specs.Sound.{IsCache, Sound}
 use Rattle.state.specs.States.{State}
+use Rattle.state.proofs.Lists.{all_alike, each-alike}
 
 -- empty caches
 
-pub all_alike : {X : Type 0} (P : X → Type 0) (n : ℕ) (x : X) → P x → AllByRecursion P (replicate n x)
-all_alike P zero x p = tt
-all_alike P (suc n) x p = (p, all_alike P n x p)
-
-empty-at : (n i : ℕ) → get_or (replicate n Place.Empty) i Place.Empty ≡ Place.Empty
-empty-at zero i = refl
-empty-at (suc n) zero = refl
-empty-at (suc n) (suc i) = empty-at n i
-
 distinct-empty : (n : ℕ) → Distinct (replicate n Place.Empty)
-distinct-empty n i j h = absurd (both_ways false refl (subst (λ p. clash p (get_or (replicate n Place.Empty) j Place.Empty) ≡ true) (empty-at n i) h))
+distinct-empty n i j h = absurd (both_ways false refl (subst (λ p. clash p (get_or (replicate n Place.Empty) j Place.Empty) ≡ true) (each-alike (λ p. p ≡ Place.Empty) n Place.Empty Place.Empty refl refl i) h))
 
 -- what an accepted opening shows
 
@@ -109,12 +100,6 @@ record Unused (s : State) (ws : List ℕ) (ls : List (List Carry)) : Type 0 wher
 unused : (r : Option Refusal) (b e : ℕ) (ws : List ℕ) (ls : List (List Carry)) (n : ℕ) → Unused (opened_by r b e ws ls n) ws ls
 unused None b e ws ls n = record { caches = refl; owners = refl; words = refl; lines = refl }
 unused (Some r) b e ws ls n = record { caches = refl; owners = refl; words = refl; lines = refl }
-
--- every element of a list of equal ones, and what stands past its end
-each-alike : {X : Type 0} (P : X → Type 0) (n : ℕ) (x d : X) → P x → P d → (i : ℕ) → P (get_or (replicate n x) i d)
-each-alike P zero x d p q i = q
-each-alike P (suc n) x d p q zero = p
-each-alike P (suc n) x d p q (suc i) = each-alike P n x d p q i
 
 empty-entry : (n c : ℕ) → entry_in (replicate n Place.Empty) c ≡ Entry.Invalid
 empty-entry zero c = refl
