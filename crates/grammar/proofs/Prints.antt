@@ -18,10 +18,7 @@ use Rattle.grammar.specs.Pieces.{field, holds, piece, is_remark, field_of}
 use Rattle.grammar.specs.Printing.{Word, Words, Writable, kind_line, field_line, place_text, word_text, step_line}
 use Rattle.grammar.specs.Steps.{at, at_word, write_of, read_of, step_in}
 
--- a digit, and the value that it brings
-digit-is : (d : ℕ) → d < 10 → is_ascii_digit (48 + d) ≡ true
-digit-is d h = grind (arith, nat_tests)
-
+-- a digit brings its value
 more-digit : (m d : ℕ) (rest : List ℕ) → d < 10 → m * 10 + d ≤ 4294967295 → digits m ((48 + d) ∷ rest) ≡ digits (m * 10 + d) rest
 more-digit m d rest h w = grind (arith, nat_tests)
 
@@ -123,15 +120,11 @@ number-plain n w =
     (λ m ds _ h. rw (holds-append 10 ds ((48 + m % 10) ∷ [])) (grind (arith, nat_tests)))
     n (omega arith)
 
-both-plain : (xs ys : List ℕ) → holds 10 xs ≡ false → holds 10 ys ≡ false → holds 10 (xs ++ ys) ≡ false
-both-plain xs ys h k = rw (holds-append 10 xs ys, h, k)
-
 place-plain : (b c : ℕ) → Words b c → holds 10 (place_text b c) ≡ false
-place-plain b c w = both-plain (decimal b) (46 ∷ decimal c) (number-plain b w.0) (number-plain c w.1)
+place-plain b c w = simp (holds-append, number-plain b w.0, number-plain c w.1) refl
 
 word-plain : (b c v : ℕ) → Words b c → Word v → holds 10 (word_text b c v) ≡ false
-word-plain b c v w x =
-    both-plain (decimal b) (46 ∷ (decimal c ++ 46 ∷ decimal v)) (number-plain b w.0) (both-plain (decimal c) (46 ∷ decimal v) (number-plain c w.1) (number-plain v x))
+word-plain b c v w x = simp (holds-append, number-plain b w.0, number-plain c w.1, number-plain v x) refl
 
 pub step-plain : (k : Kind) (s : TraceStep) → Writable k s → holds 10 (step_line s) ≡ false
 step-plain k (Plain (Read b c)) w = place-plain b c w.1
@@ -148,7 +141,7 @@ kind-plain Run = refl
 kind-plain Log = refl
 
 pub field_plain : (p : List ℕ) (n : ℕ) → holds 10 p ≡ false → Word n → holds 10 (field_line p n) ≡ false
-field_plain p n h w = both-plain p (decimal n) h (number-plain n w)
+field_plain p n h w = simp (holds-append, h, number-plain n w) refl
 
 -- none of the lines is a remark
 

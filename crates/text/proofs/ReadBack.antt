@@ -10,7 +10,6 @@ use Rattle.grammar.specs.declared.kind.Kind.{Kind}
 use Rattle.grammar.specs.declared.kind.Kind.TheVariants.{Run, Log}
 use Rattle.grammar.specs.declared.trace_step.TraceStep.{TraceStep}
 use Rattle.grammar.specs.Fields.{wanted, kind_said, ranged, number_said}
-use Rattle.grammar.specs.Numbers.{and_then}
 use Rattle.grammar.specs.Pieces.{Piece, holds, piece, is_remark}
 use Rattle.grammar.specs.Printing.{Writable, kind_line as kind_printed, field_line, step_line}
 use Rattle.grammar.proofs.Prints.{named, step_back, kind-back, field_back, step-plain, kind-plain, field_plain, step-told, kind-told, field_told}
@@ -54,10 +53,6 @@ told_at (n ∷ ns) (l ∷ ls) = record { line = n; says = piece l } ∷ told_at 
 
 abbrev Telling : List ℕ → Type 0
 Telling l = is_remark (piece l) ≡ false
-
--- a line that is no remark tells what it says
-told-first : (n : ℕ) (l : Option (List ℕ)) (ls : List (Option (List ℕ))) → is_remark (and_then l piece) ≡ false → told n (l ∷ ls) ≡ record { line = n; says = and_then l piece } ∷ told (n + 1) ls
-told-first n l ls h = rw h
 
 told-remarked : {ls ms : List (List ℕ)} → Remarked ls ms → AllByRecursion Telling ls → (n : ℕ) → told n (map Some ms) ≡ told_at (numbers n ms) ls
 told-remarked end h n = refl
