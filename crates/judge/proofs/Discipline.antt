@@ -1,10 +1,10 @@
 -- A history keeps to ownership exactly if each of its events was allowed in its turn.
-use Rattle.std.proofs.Common.{◌≡◌, ℕ, true, false, eqb, ◌⊎◌, ◌↔◌, List, [], Some, None, Ok, Err, Option, Result, sym, refl, ap, ◌∙◌, subst, inl, inr, arith}
-use Rattle.std.proofs.lemmas.Bool.{cases_Bool, eqb-true, eq-eqb, cond-true, cond-false}
+use Rattle.std.proofs.Common.{◌≡◌, ℕ, eqb, ◌↔◌, List, [], Some, None, Ok, Err, Option, sym, refl, ap, ◌∙◌, subst, arith}
+use Rattle.std.proofs.lemmas.Bool.{eq-eqb, cond-true}
+use Rattle.std.proofs.lemmas.Bool.Decides.{nat_tests}
 use Rattle.model.specs.declared.event.Action.{Action}
 use Rattle.model.specs.declared.event.Event.{Event}
-use Rattle.model.specs.declared.refusal.Refusal.{Refusal}
-use Rattle.model.specs.declared.refusal.Refusal.TheVariants.{OwnedByAnother, OwnedAlready, NotOwner}
+use Rattle.model.specs.declared.refusal.Refusal.TheVariants.{NotOwner}
 use Rattle.order.specs.Order.{next, more, Owns, Disciplined}
 use Rattle.order.specs.Test.{owner_of}
 use Rattle.order.proofs.History.{none-not-some, nothing-not-some, at_new}
@@ -12,25 +12,14 @@ use Rattle.order.proofs.Owners.{owner-tells, owns-up, owns-old, disciplined-old,
 use Rattle.judge.specs.Judging.{acquiring, releasing, allowed}
 use Rattle.judge.specs.Discipline.{DisciplineDecided}
 
-err-not-ok : {r : Refusal} → ◌≡◌ {A = Result (Unit {0}) Refusal} (Err r) (Ok tt) → ⊥
-err-not-ok p = cc
-
 -- an acquire is allowed where nobody owns the cell, a release where the board does
 taken : (o : Option ℕ) (b : ℕ) → acquiring o b ≡ Ok tt → o ≡ None
 taken None b q = refl
-taken (Some p) b q = go (cases_Bool (eqb p b))
-  where
-    go : (eqb p b ≡ true) ⊎ (eqb p b ≡ false) → Some p ≡ None
-    go (inl t) = absurd (err-not-ok (sym (cond-true (eqb p b) (Err OwnedAlready) (Err OwnedByAnother) t) ∙ q))
-    go (inr t) = absurd (err-not-ok (sym (cond-false (eqb p b) (Err OwnedAlready) (Err OwnedByAnother) t) ∙ q))
+taken (Some p) b q = grind (arith, nat_tests)
 
 held : (o : Option ℕ) (b : ℕ) → releasing o b ≡ Ok tt → o ≡ Some b
-held None b q = absurd (err-not-ok q)
-held (Some p) b q = go (cases_Bool (eqb p b))
-  where
-    go : (eqb p b ≡ true) ⊎ (eqb p b ≡ false) → Some p ≡ Some b
-    go (inl t) = ap {B = Option ℕ} Some (eqb-true p b t)
-    go (inr t) = absurd (err-not-ok (sym (cond-false (eqb p b) (Ok tt) (Err NotOwner) t) ∙ q))
+held None b q = cc
+held (Some p) b q = grind (arith, nat_tests)
 
 pub held_by : (b : ℕ) → releasing (Some b) b ≡ Ok tt
 held_by b = cond-true (eqb b b) (Ok tt) (Err NotOwner) (eq-eqb b b refl)

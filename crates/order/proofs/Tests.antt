@@ -1,7 +1,7 @@
 -- The views of a cell say which writes are in sight and which are overwritten; so the test of readable decides it.
-use Rattle.std.proofs.Common.{◌≡◌, ℕ, zero, suc, ◌+◌, ◌<◌, ◌≤◌, max, Bool, true, false, cond, ◌&&◌, ◌||◌, eqb, ltb, leb, ◌⊎◌, List, [], ◌∷◌, length, get_or, set, replicate, Some, None, Decides, Option, sym, refl, ap, ◌∙◌, subst, inl, inr, arith}
+use Rattle.std.proofs.Common.{◌≡◌, ℕ, zero, suc, ◌+◌, ◌<◌, ◌≤◌, max, Bool, true, false, cond, ◌&&◌, ◌||◌, eqb, ltb, leb, ◌⊎◌, List, [], ◌∷◌, length, get_or, set, Some, None, Decides, Option, sym, refl, ap, ◌∙◌, subst, inl, inr, arith}
 use native.Mathlib.Decide.{ℕ_discrete}
-use Rattle.std.proofs.lemmas.List.{length-set, get_or-set_same, get_or-set_other}
+use Rattle.std.proofs.lemmas.List.{length-set, get_or-replicate, get_or-set_same, get_or-set_other}
 use Rattle.std.proofs.lemmas.Bool.{true≢false, cases_Bool, ltb-true, lt-ltb, le-ltb, eqb-true, eqb-false, eq-eqb, cond-true, cond-false, and_parts, and_from, leb-true, le-leb, cases_lt}
 use Rattle.std.proofs.lemmas.Bool.Decides.{nat_tests, Decides-like, Decides-at, Decides-or}
 use Rattle.model.specs.declared.event.Action.{Action}
@@ -283,14 +283,9 @@ low-get_or m [] p l = omega arith
 low-get_or m (n ∷ ns) zero l = leb-true n m (and_parts (leb n m) (low m ns) l).0
 low-get_or m (n ∷ ns) (suc p) l = low-get_or m ns p (and_parts (leb n m) (low m ns) l).1
 
-get_or-alike : {X : Type 0} (n p : ℕ) (x : X) → get_or (replicate n x) p x ≡ x
-get_or-alike zero p x = refl
-get_or-alike (suc n) zero x = refl
-get_or-alike (suc n) (suc p) x = get_or-alike n p x
-
 right-start : (c : ℕ) → Right [] c initially
 right-start c = record {
-  boards = λ b small. subst (Shows [] c (Known [] c b)) (sym (get_or-alike 8 b blank)) (shows-start c (Known [] c b) blank refl refl (λ p. low-get_or 1 blank.known p refl) (λ p. low-get_or 0 blank.over p refl) (never 0 0 (omega arith) no-events));
+  boards = λ b small. subst (Shows [] c (Known [] c b)) (sym (get_or-replicate 8 b blank blank small)) (shows-start c (Known [] c b) blank refl refl (λ p. low-get_or 1 blank.known p refl) (λ p. low-get_or 0 blank.over p refl) (never 0 0 (omega arith) no-events));
   released = shows-start c (Published [] c) initially.released refl refl (λ p. low-get_or 1 initially.released.known p refl) (λ p. low-get_or 0 initially.released.over p refl) (always 0 1 (omega arith) first);
   eight = refl;
 }

@@ -1,6 +1,7 @@
 -- A bench is sound when it is opened; and what an accepted opening shows.
-use Rattle.std.proofs.Common.{◌≡◌, ℕ, zero, suc, ◌≤◌, Bool, true, false, cond, ◌&&◌, leb, List, [], ◌∷◌, length, get_or, replicate, Some, None, filter, Option, sym, refl, ap, ◌∙◌, subst, arith}
-use Rattle.std.proofs.lemmas.Bool.{both_ways, and_parts, leb-true}
+use Rattle.std.proofs.Common.{◌≡◌, ℕ, zero, suc, ◌≤◌, true, false, List, [], ◌∷◌, length, get_or, replicate, Some, None, filter, Option, sym, refl, ap, ◌∙◌, subst, arith}
+use Rattle.std.proofs.lemmas.Bool.{both_ways}
+use Rattle.std.proofs.lemmas.Bool.Decides.{nat_tests}
 use Rattle.model.specs.declared.carry.Carry.{Carry}
 use Rattle.model.specs.declared.entry.Entry.{Entry}
 use Rattle.model.specs.declared.refusal.Refusal.{Refusal}
@@ -9,7 +10,7 @@ use Rattle.cache.specs.declared.place.Place.{Place}
 use Rattle.cache.specs.Places.{entry_in, clash, Distinct}
 use Rattle.state.specs.Cells.{words_of, project}
 use Rattle.state.specs.Laws.{OpenedSound}
-use Rattle.state.specs.Opening.{quiet, between, refusal_of, opened_by, opened}
+use Rattle.state.specs.Opening.{quiet, refusal_of, opened_by, opened}
 use Rattle.state.specs.Sound.{IsCache, Sound}
 use Rattle.state.specs.States.{State}
 use Rattle.state.proofs.Lists.{all_alike, each-alike}
@@ -30,31 +31,8 @@ pub record Accepted (b e : ℕ) (ws : List ℕ) (ls : List (List Carry)) : Type 
   pub entries : e ≤ 8
   pub lines : quiet ls ≡ true
 
-tests-passed : (p q : Bool) → cond p (cond q None (Some Refusal.PathNotEmpty)) (Some Refusal.SizeOutOfRange) ≡ None → (p ≡ true) × (q ≡ true)
-tests-passed true true h = (refl, refl)
-tests-passed true false h = (refl, cc)
-tests-passed false q h = (cc, cc)
-
-in-range : (n m : ℕ) → between n m ≡ true → (1 ≤ n) × (n ≤ m)
-in-range n m h = let parts = and_parts (leb 1 n) (leb n m) h in (leb-true 1 n parts.0, leb-true n m parts.1)
-
 pub accepted : (b e : ℕ) (ws : List ℕ) (ls : List (List Carry)) → refusal_of b e ws ls ≡ None → Accepted b e ws ls
-accepted b e ws ls h =
-    let passed = tests-passed (between b 8 && (between (length ws) 64 && between e 8)) (quiet ls) h in
-    let first = and_parts (between b 8) (between (length ws) 64 && between e 8) passed.0 in
-    let rest = and_parts (between (length ws) 64) (between e 8) first.1 in
-    let boards = in-range b 8 first.0 in
-    let cells = in-range (length ws) 64 rest.0 in
-    let entries = in-range e 8 rest.1 in
-    record {
-      some_board = boards.0;
-      boards = boards.1;
-      some_cell = cells.0;
-      cells = cells.1;
-      some_entry = entries.0;
-      entries = entries.1;
-      lines = passed.1;
-    }
+accepted b e ws ls h = grind (arith, nat_tests)
 
 -- where no carry waits, every line is empty
 pub quiet-lines : (ls : List (List Carry)) → quiet ls ≡ true → (b : ℕ) → line ls b ≡ []

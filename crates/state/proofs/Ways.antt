@@ -74,9 +74,6 @@ nothing-sent Entry.Invalid h = refl
 nothing-sent (Entry.Clean w) h = refl
 nothing-sent (Entry.Dirty w) h = absurd (both_ways true h refl)
 
-owned : (o : ℕ) → Some o ≡ None → ⊥
-owned o e = let z : ◌≡◌ {A = ℕ} 0 1 = cc in omega arith
-
 not-owner : {b : ℕ} (o : Option ℕ) → is_owner o b ≡ false → o ≡ Some b → ⊥
 not-owner {b = b} o other e = both_ways (is_owner o b) other (ap (λ x. is_owner x b) e ∙ eq-eqb b b refl)
 
@@ -168,8 +165,8 @@ module _ (s : State) (b c : ℕ) where
   acquire-way : On s b c → (o : Option ℕ) → owner_of s c ≡ o → Meets (Way s (Step.Acquire b c)) (acquire s b c o)
   acquire-way on (Some o) p =
       cond_both (eqb o b) (refuse Refusal.OwnedAlready s) (refuse Refusal.OwnedByAnother s) (Meets (Way s (Step.Acquire b c)))
-      (λ _. refusing Refusal.OwnedAlready (λ _. inr (λ free. owned o (sym p ∙ free))))
-      (λ _. refusing Refusal.OwnedByAnother (λ _. inr (λ free. owned o (sym p ∙ free))))
+      (λ _. refusing Refusal.OwnedAlready (λ _. inr (λ free. cc)))
+      (λ _. refusing Refusal.OwnedByAnother (λ _. inr (λ free. cc)))
   acquire-way on None p = free-way on p entry refl
 
   not-settled : unsettled s b c ≡ true → sent entry ≡ [] → (project c s).flight b ≡ [] → ⊥
