@@ -6,7 +6,7 @@ use Rattle.model.specs.declared.refusal.Refusal.{Refusal}
 use Rattle.model.specs.declared.step.Step.{Step}
 use Rattle.grammar.specs.declared.kind.Kind.TheVariants.{Run}
 use Rattle.home.specs.PairHome.{size_for}
-use Rattle.home.proofs.Sizes.{size-as-asked}
+use Rattle.home.proofs.Sizes.{words-as-asked}
 use Rattle.path.specs.FirstCome.{StartsLast, LandsEarliest}
 use Rattle.carries.specs.Held.{held, lines_in}
 use Rattle.carries.specs.Tables.{lines_of}
@@ -25,10 +25,6 @@ use Rattle.report.specs.Plain.{fresh, answers}
 use Rattle.report.proofs.Always.{length-answers, header-opens}
 use Rattle.report.proofs.Courses.{same-answers}
 
--- a pair home of a size in range has that size
-pub pair-words : (h : Header) → InRange h → replicate (size_for h.cells) h.start ≡ starting_words h
-pair-words h fits = ap (λ n. replicate n h.start) (size-as-asked h.cells fits.cells.1)
-
 -- a list of answers as long as the steps holds theirs and no more
 all-taken : (before after : List Answer) (n : ℕ) → length before ≡ n → drop n after ≡ drop n before → take n after ≡ after
 all-taken before after n long rest =
@@ -45,7 +41,7 @@ module _ (h : Header) (fits : InRange h) (p q : FirstCome) (xs : List Step) (bef
       → Went (λ a x b. StartsLast a.waiting x b.waiting) (λ a o b. LandsEarliest a.waiting o b.waiting) (bench words) p xs r after t q
       → after ≡ answers_to h xs
   replayed words (Ok u) is idle long ran went =
-      let start : words ≡ starting_words h = is ∙ pair-words h fits in
+      let start : words ≡ starting_words h = is ∙ words-as-asked h.cells h.start fits.cells.1 in
       sym (all-taken before after (length xs) long ran.rest)
       ∙ same-answers {P = FirstCome} (λ a. held a.waiting) _ _ (λ a x b s. s) (λ a o b l. l) h.boards h.entries words p q xs (take (length xs) after) t
       (ap (λ ws. refusal_of h.boards h.entries ws (lines_in p.waiting)) start ∙ ap (λ xs. refusal_of h.boards h.entries (starting_words h) (lines_of xs)) idle ∙ header-opens h fits)

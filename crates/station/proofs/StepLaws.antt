@@ -1,7 +1,8 @@
 -- What the judge's answer at one step says of it, and the steps in turn.
 use Rattle.std.proofs.Common.{◌≡◌, ℕ, ◌+◌, ◌<◌, ◌≤◌, Bool, true, false, cond, ltb, List, [], ◌∷◌, ◌++◌, length, get_or, is_ok, Some, None, Ok, Err, Option, Result, sym, refl, ap, ◌∙◌, subst, arith}
 use Rattle.std.proofs.lemmas.List.{append-nil, length-append}
-use Rattle.std.proofs.lemmas.Bool.{ltb-true, lt-ltb, le-leb, and_from, cond-true}
+use Rattle.std.proofs.lemmas.Bool.Decides.{nat_tests}
+use Rattle.std.proofs.lemmas.Bool.{ltb-true, lt-ltb, cond-true}
 use Rattle.model.specs.declared.event.Event.{Event}
 use Rattle.model.specs.declared.refusal.Refusal.{Refusal}
 use Rattle.model.specs.declared.refusal.Refusal.TheVariants.{NoSuchBoard, NoSuchCell, SizeOutOfRange, EventsFull}
@@ -53,7 +54,7 @@ pub standing-there : (n m b c : ℕ) → standing n m b c ≡ Ok tt → (b < n) 
 standing-there n m b c e = let t = tests (ranged n m) (ltb b n) (ltb c m) e in (ltb-true b n t.0, ltb-true c m t.1)
 
 in-range : (n m : ℕ) → 1 ≤ n → n ≤ 8 → 1 ≤ m → m ≤ 64 → ranged n m ≡ true
-in-range n m a b c d = and_from _ _ (and_from _ _ (lt-ltb 0 n a) (le-leb n 8 b)) (and_from _ _ (lt-ltb 0 m c) (le-leb m 64 d))
+in-range n m a b c d = grind (arith, nat_tests)
 
 standing-back : (n m b c : ℕ) → ranged n m ≡ true → b < n → c < m → standing n m b c ≡ Ok tt
 standing-back n m b c r p q = cond-true _ _ _ r ∙ cond-true _ _ _ (lt-ltb b n p) ∙ cond-true _ _ _ (lt-ltb c m q)

@@ -1,7 +1,7 @@
 -- The verdict on a whole text, once its header is read.
-use Rattle.std.proofs.Common.{◌≡◌, ℕ, ◌≤◌, List, [], replicate, Some, None, Ok, Err, Option, Result, sym, refl, ap, ◌∙◌}
+use Rattle.std.proofs.Common.{◌≡◌, ℕ, List, [], replicate, Some, None, Ok, Err, Option, Result, sym, refl, ap, ◌∙◌}
 use Rattle.home.specs.PairHome.{size_for}
-use Rattle.home.proofs.Sizes.{size-as-asked}
+use Rattle.home.proofs.Sizes.{words-as-asked}
 use Rattle.grammar.specs.declared.kind.Kind.TheVariants.{Log}
 use Rattle.text.specs.declared.fault.Fault.{Fault}
 use Rattle.text.specs.declared.header.Header.{Header}
@@ -10,17 +10,13 @@ use Rattle.text.specs.Reading.{header_in, course_in, complete, reading, header_o
 use Rattle.text.specs.Printing.{InRange}
 use Rattle.text.proofs.Headers.{header-in-range}
 use Rattle.station.specs.declared.verdict.Verdict.TheVariants.{AllLegal}
-use Rattle.text.specs.Heading.{starting_words}
 use Rattle.station.specs.Verdicts.{judged_to, end_of, verdict_for, verdict_of}
-
-words-start : (h : Header) → h.cells ≤ 64 → replicate (size_for h.cells) h.start ≡ starting_words h
-words-start h l = ap (λ n. replicate n h.start) (size-as-asked h.cells l)
 
 whole_of : (r : Result Header Fault) (ps : List PlacedStep) (f : Option Fault) (h : Header) → ((g : Header) → r ≡ Ok g → InRange g) → header_of (complete r (record { steps = ps; fault = f })) ≡ Ok h → judged_to (end_of f) h.boards (replicate (size_for h.cells) h.start) [] ps ≡ verdict_for (complete r (record { steps = ps; fault = f }))
 whole_of (Ok g) ps None h fits e =
     let same : g ≡ h = cc in
     ap (λ (k : Header). judged_to AllLegal k.boards (replicate (size_for k.cells) k.start) [] ps) (sym same)
-    ∙ ap (λ ws. judged_to AllLegal g.boards ws [] ps) (words-start g (fits g refl).cells.1)
+    ∙ ap (λ ws. judged_to AllLegal g.boards ws [] ps) (words-as-asked g.cells g.start (fits g refl).cells.1)
 whole_of (Ok g) ps (Some f) h fits e = cc
 whole_of (Err g) ps f h fits e = cc
 
