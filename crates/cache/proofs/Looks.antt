@@ -84,8 +84,9 @@ replace-nowhere (p ∷ ps) c q e =
 
 -- what the looks answer
 
-pub entry_found : (ps : List Place) (c i : ℕ) → Distinct ps → Found ps c (Some i) → entry_of (get_or ps i Empty) ≡ entry_in ps c
-entry_found ps c i d f = entry_at ps c i d f.1
+pub looked-up : (ps : List Place) (c : ℕ) (o : Option ℕ) (r : Place) → Distinct ps → Found ps c o → MatchOption o (r ≡ Empty) (λ i. r ≡ get_or ps i Empty) → entry_of r ≡ entry_in ps c
+looked-up ps c None r d f is = ap entry_of is ∙ sym (invalid ps c f)
+looked-up ps c (Some i) r d f is = ap entry_of is ∙ entry_at ps c i d f.1
 
 pub offered-found : (ps : List Place) (c i : ℕ) → Found ps c (Some i) → Offered ps c (Some i)
 offered-found ps c i f = (f.0, cond-true (stands_in ps c) (holds (get_or ps i Empty) c) (vacant ps i) (stands ps c i f.1) ∙ f.1)
@@ -143,3 +144,7 @@ pub store-stands : (ps qs : List Place) (c i : ℕ) (e : Entry) → holds (get_o
 store-stands ps qs c i e h s =
     let known = sym (cond-true (stands_in ps c) (Some (replace_in ps c (place_for c e))) (cond (vacant ps i) (Some (set ps i (place_for c e))) None) (stands ps c i h)) ∙ s in
     cc
+
+pub renewed : (ps qs : List Place) (c : ℕ) (o : Option ℕ) (e : Entry) → Found ps c o → MatchOption o (qs ≡ ps) (λ i. store_in i ps c e ≡ Some qs) → qs ≡ replace_in ps c (place_for c e)
+renewed ps qs c None e f is = is ∙ sym (replace-nowhere ps c (place_for c e) f)
+renewed ps qs c (Some i) e f is = store-stands ps qs c i e f.1 is

@@ -21,7 +21,8 @@ impl<'a> FrozenImage<'a> {
         FrozenImage { bytes }
     }
 
-    // The words that count, in bytes.
+    // The words that count, in bytes. How few they are is told again: `size` counts fours of bytes, and the other clause
+    // tells of the numbers that they are.
     fn words(&self) -> &[[u8; 4]]
         ensures words { map (from_be_bytes w32) result.now ≡ image_of self.now.bytes.now }
         ensures few { length result.now ≤ 65536 }

@@ -73,10 +73,7 @@ impl<H: Home> Source for HoldingBuffer<H> {
     // A held word goes before the one below.
     fn read(&self, cell: u32) -> Result<u32, Refusal> {
         check_cell(cell, self.size())?;
-        match self.held(cell) {
-            Some(word) => Ok(word),
-            None => self.below.read(cell),
-        }
+        self.held(cell).map_or_else(|| self.below.read(cell), Ok)
     }
 }
 

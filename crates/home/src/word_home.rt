@@ -25,7 +25,6 @@ impl<'a> WordHome<'a> {
     #[tactic(auto, unfolding(crate::specs::WordHome::counted))]
     fn words(&self) -> &[u32]
         ensures words { result.now ≡ counted self.now.list.now }
-        ensures few { length result.now ≤ 65536 }
     {
         first_words(self.list)
     }

@@ -42,7 +42,9 @@ impl Path for FirstCome {
 
     ghost proper = { λ p. ByBoard.proper 8 (held p.waiting) p.waiting.located p.waiting.short };
 
-    fn capacity() -> u32 {
+    fn capacity() -> u32
+        ensures value { result ≡ 8 }
+    {
         Self::LENGTH
     }
 

@@ -11,7 +11,7 @@ pub enum Order {
     Land,
 }
 
-// What it answers: one type for a start and a landing, since a run writes both into one list.
+// What it answers. No `Result` of a landing: the four stand in one list of a run, some for starts and some for landings.
 #[derive(Clone, Copy, PartialEq, Eq, Debug)]
 pub enum Reply {
     Started,
@@ -24,10 +24,7 @@ impl From<Result<(), Refusal>> for Reply {
     ghost from_gives = { λ started reply. reply ≡ start_reply started };
 
     fn from(started: Result<(), Refusal>) -> Self {
-        match started {
-            Ok(()) => Reply::Started,
-            Err(refusal) => Reply::Refused(refusal),
-        }
+        started.map_or_else(Reply::Refused, |()| Reply::Started)
     }
 }
 

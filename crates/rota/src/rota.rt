@@ -88,7 +88,9 @@ impl Path for Rota {
 
     ghost proper = { λ p. ByBoard.proper 4 (held p.waiting) p.waiting.located p.waiting.short };
 
-    fn capacity() -> u32 {
+    fn capacity() -> u32
+        ensures value { result ≡ 4 }
+    {
         Self::LENGTH
     }
 

@@ -12,24 +12,11 @@ use model::refusal::Refusal;
 use model::step::Step;
 use path::path::Path;
 
-// A bench after a run, and whether the run was refused.
+// A bench after a run, and whether the run was refused. No `Result` of a bench: a refused run hands the bench back too.
 #[derive(Drop)]
 pub struct Replayed<H: Home, P: Path> {
     pub bench: Bench<H, P>,
     pub result: Result<(), Refusal>,
-}
-
-// Runs the steps on a bench.
-fn run_on<H: Home, P: Path>(
-    mut bench: Bench<H, P>,
-    steps: &[Step],
-    answers: &mut [Answer],
-) -> Replayed<H, P>
-    ensures run { Ran bench.state steps.now answers.old result.result answers.new result.bench.state }
-    ensures path { Went P.Path.starts P.Path.lands bench.state bench.path steps.now result.result answers.new result.bench.state result.bench.path }
-{
-    let result = bench.run(steps, answers);
-    Replayed { bench, result }
 }
 
 // Opens a bench over the home and the path, runs the steps on it, and puts their answers into the caller's list. What
@@ -47,5 +34,7 @@ pub fn replay<H: Home, P: Path>(
     ensures model { KeepsModel (opened boards entries (H.Source.words home) (P.Path.lines path) P.Path.LENGTH) (ran_onto result.result [] steps.now answers.new) }
     ensures rules { RulesOfBench }
 {
-    run_on(Bench::open(boards, entries, home, path), steps, answers)
+    let mut bench = Bench::open(boards, entries, home, path);
+    let result = bench.run(steps, answers);
+    Replayed { bench, result }
 }

@@ -45,26 +45,18 @@ impl Cache {
     pub fn replace(self, cell: u32, entry: Entry) -> Cache
         ensures { table_of result ≡ replace_in (table_of self) cell (place_for cell entry) }
     {
-        self.renewed(cell, entry)
-    }
-
-    fn renewed(self, cell: u32, entry: Entry) -> Cache
-        ensures { table_of result ≡ replace_in (table_of self) cell (place_for cell entry) }
-    {
-        match self.places.find(cell) {
-            Some(at) => self.with(at, cell, entry),
-            None => self,
-        }
+        self.places
+            .find(cell)
+            .map_or(self, |at| self.with(at, cell, entry))
     }
 
     // The place where the cell stands, or an empty one.
     fn place_of(&self, cell: u32) -> Place
         ensures { entry_of result ≡ entry_in (table_of self.now) cell }
     {
-        match self.places.find(cell) {
-            Some(i) => self.places.get(i),
-            None => Place::Empty,
-        }
+        self.places
+            .find(cell)
+            .map_or(Place::Empty, |i| self.places.get(i))
     }
 
     // Where an entry of the cell may be stored.

@@ -10,7 +10,8 @@ use model::carry::Carry;
 use model::refusal::Refusal;
 use model::search;
 
-// Refuses a board or a cell that does not exist.
+// Refuses a board or a cell that does not exist, the board first. A bench and a judge each check so too, against other
+// limits: a bench by its own boards and the size of its home.
 fn check(board: u32, cell: u32) -> Result<(), Refusal>
     ensures { result ≡ checked board cell (Ok tt) }
 {
@@ -23,26 +24,11 @@ fn check(board: u32, cell: u32) -> Result<(), Refusal>
     Ok(())
 }
 
-// How many of the carries are of a board.
-fn count_of(carries: &[Carry], board: u32) -> u32
-    requires { length carries.now ≤ 64 }
-    ensures { result ≡ length (line_of board carries.now) }
-{
-    carries.iter().filter(|x| x.board == board).count() as u32
-}
-
-// The place of a board's oldest carry.
+// The place of a board's oldest carry. A call of its own, so that each clause of `land_of` is proved from this one fact.
 fn first_of(carries: &[Carry], board: u32) -> Option<usize>
     ensures { result ≡ position (λ x. x.board == board) carries.now }
 {
     carries.iter().position(|x| x.board == board)
-}
-
-// The newest carry of a board and a cell.
-fn newest_of(carries: &[Carry], board: u32, cell: u32) -> Option<Carry>
-    ensures { result ≡ newest (filter (of_lane board cell) carries.now) }
-{
-    search::newest(carries, board, cell).map(|place| carries[place])
 }
 
 impl<const LENGTH: u32> Table<LENGTH> {
@@ -56,15 +42,14 @@ impl<const LENGTH: u32> Table<LENGTH> {
     }
 
     // How many carries wait in the line of a board.
-    #[tactic(auto, using(crate::proofs::ByBoard::lines))]
     fn waiting(&self, board: u32) -> u32
-        requires { board ≤ 7 }
-        ensures { result ≡ length (line (lines_in self.now) board) }
+        ensures { result ≡ length (line_of board (held self.now)) }
     {
-        count_of(&self.carries, board)
+        self.carries.iter().filter(|x| x.board == board).count() as u32
     }
 
     // Starts a carry, if its board and its cell exist and its line has room.
+    #[tactic(auto, using(crate::proofs::ByBoard::lines))]
     pub fn start(&mut self, carry: Carry) -> Result<(), Refusal>
         ensures answer { result ≡ start_at (min LENGTH 8) (lines_in self.old) carry }
         ensures after { lines_in self.new ≡ started (min LENGTH 8) (lines_in self.old) carry }
@@ -85,13 +70,16 @@ impl<const LENGTH: u32> Table<LENGTH> {
         ensures { result ≡ newest_at (lines_in self.now) board cell }
     {
         check(board, cell)?;
-        Ok(newest_of(&self.carries, board, cell))
+        let carries: &[Carry] = &self.carries;
+        Ok(search::newest(carries, board, cell).map(|place| carries[place]))
     }
 
     // How many carries wait in a line.
+    #[tactic(auto, using(crate::proofs::ByBoard::lines))]
     pub fn count(&self, board: u32) -> Result<u32, Refusal>
         ensures { result ≡ count_at (lines_in self.now) board }
     {
+        // no `check`: a count is of no cell
         if board >= BOARDS {
             return Err(Refusal::NoSuchBoard);
         }

@@ -103,11 +103,12 @@ impl<H: Home, P: Path> Bench<H, P> {
         ensures path { Carries P.Path.starts P.Path.lands self.old.path (traffic_of self.old.state step result) self.new.path }
         ensures refused { is_refused result ≡ true → self.new ≡ self.old }
     {
-        // a bench is sound by its make
+        // does nothing: it opens the bench, so that the proof sees the invariant
         let _ = &self.boards;
         self.take(step)
     }
 
+    // The step itself. A call of its own, so that the two facts of soundness are shown once and not for each of the seven.
     fn take(&mut self, step: Step) -> Answer
         ensures step { Takes self.old.state step result self.new.state }
         ensures path { Carries P.Path.starts P.Path.lands self.old.path (traffic_of self.old.state step result) self.new.path }

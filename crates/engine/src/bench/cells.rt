@@ -12,7 +12,9 @@ use model::entry::Entry;
 use model::refusal::Refusal;
 use path::path::Path;
 
-// What each step does once its board and its cell are checked.
+// What each step does once its board and its cell are checked. That the path stays, and that a refused call changes
+// nothing, stands as a clause at each such call here and in the parts: no type carries either of them, and an inner struct
+// without the path would split the bench's state in two.
 impl<H: Home, P: Path> Bench<H, P> {
     pub(crate) fn read_at(&mut self, at: Access) -> Result<u32, Refusal>
         ensures step { TakesBy (λ k. read k self.old.state at.board at.cell (entry_at self.old.state at)) (word_answer result) self.new.state }

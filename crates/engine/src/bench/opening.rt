@@ -50,16 +50,13 @@ impl<H: Home, P: Path> Bench<H, P> {
     }
 }
 
-fn in_range(number: u32, most: u32) -> bool
-    ensures { result ≡ between number most }
-{
-    (1..=most).contains(&number)
-}
-
 fn refusal_of<H: Home, P: Path>(boards: u32, entries: u32, home: &H, path: &P) -> Option<Refusal>
     ensures { result ≡ refusal_of boards entries (H.Source.words home.now) (P.Path.lines path.now) }
 {
-    if !(in_range(boards, 8) && in_range(home.size(), 64) && in_range(entries, 8)) {
+    if !(1..=8).contains(&boards)
+        || !(1..=64).contains(&home.size())
+        || !(1..=8).contains(&entries)
+    {
         return Some(Refusal::SizeOutOfRange);
     }
     if !is_quiet(path) {

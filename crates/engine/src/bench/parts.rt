@@ -18,7 +18,8 @@ use model::refusal::Refusal;
 use path::path::Path;
 
 impl<H: Home, P: Path> Bench<H, P> {
-    // Each step of a board on a cell begins so.
+    // Each step of a board on a cell begins so: board, then cell, as lines of carries and a judge check them too, but by
+    // the bench's own boards and cells.
     pub(crate) fn checked(&self, board: u32, cell: u32) -> Result<Access, Refusal>
         ensures { Checked self.now.state board cell result }
     {
@@ -75,10 +76,7 @@ impl<H: Home, P: Path> Bench<H, P> {
     pub(crate) fn fetch(&self, at: Access) -> u32
         ensures { result ≡ fetched self.now.state at.board at.cell }
     {
-        match self.newest(at) {
-            Some(carry) => carry.word,
-            None => self.home.read(at.cell).unwrap_or(0),
-        }
+        self.newest(at).map_or_else(|| self.home.read(at.cell).unwrap_or(0), |carry| carry.word)
     }
 
     // The board's newest carry of the cell.

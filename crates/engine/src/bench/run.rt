@@ -10,7 +10,8 @@ use path::path::Path;
 
 impl<H: Home, P: Path> Bench<H, P> {
     // Performs every step of the list in turn, and puts one answer for each into the caller's list; what stands behind
-    // them there stays. Where the list of answers is the shorter, nothing happens.
+    // them there stays. Where the list of answers is the shorter, nothing happens. The run of a path is a function of its
+    // own: one for both would need a trait over what is run, with a state, a step and an answer of each.
     pub fn run(&mut self, steps: &[Step], answers: &mut [Answer]) -> Result<(), Refusal>
         ensures run { Ran self.old.state steps.now answers.old result answers.new self.new.state }
         ensures path { Went P.Path.starts P.Path.lands self.old.state self.old.path steps.now result answers.new self.new.state self.new.path }
@@ -29,7 +30,7 @@ impl<H: Home, P: Path> Bench<H, P> {
         ensures run { RanAll self.old.state steps.now answers.old answers.new self.new.state }
         ensures path { Course P.Path.starts P.Path.lands self.old.state self.old.path steps.now (take (length steps.now) answers.new) self.new.state self.new.path }
     {
-        // each answer has the place of its step
+        // no `zip`: as the project prescribes, a run goes over the steps with their index, the place of each one's answer
         for (i, step) in steps.iter().enumerate() {
             let answer = self.perform(*step);
             put(answers, i, answer);

@@ -9,7 +9,7 @@ push-requires g c =
     let t = c.args.self.now in
     let x = c.args.carry in
     let on = checks x.board x.cell c.in_ok-check.field-0 (sym c.check.ensures ∙ c.in_ok-check.was) in
-    omega (arith, room x.board (held t) t.located (λ b. omega (arith, t.short b)) on.0 (omega (arith, ap length (line-of (held t) x.board on.0))))
+    omega (arith, room x.board (held t) t.located (λ b. omega (arith, t.short b)) on.0 (omega arith))
 
 pub invariant_of-self : goal.invariant_of-self
 invariant_of-self g c =
@@ -18,7 +18,7 @@ invariant_of-self g c =
     let on = checks x.board x.cell c.in_ok-check.field-0 (sym c.check.ensures ∙ c.in_ok-check.was) in
     record {
       located = ap located c.push.ensures.items ∙ located-push (held t) x t.located on.0 on.1;
-      short = λ b. rw c.push.ensures.items (short-push (min g.row.LENGTH 8) (held t) x t.short (omega (arith, ap length (line-of (held t) x.board on.0))) b);
+      short = λ b. rw c.push.ensures.items (short-push (min g.row.LENGTH 8) (held t) x t.short (omega arith) b);
     }
 
 pub returns-clause-after : goal.returns-clause-after
@@ -29,4 +29,4 @@ returns-clause-after g c =
     let room = c.waiting.ensures in
     ap lines_of c.push.ensures.items
     ∙ lines-push (held t) x on.0
-    ∙ sym (started-is (min g.row.LENGTH 8) (lines_of (held t)) x on.0 on.1 (omega arith))
+    ∙ sym (started-is (min g.row.LENGTH 8) (lines_of (held t)) x on.0 on.1 (omega (arith, ap length (line-of (held t) x.board on.0))))
