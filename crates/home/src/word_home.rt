@@ -1,6 +1,6 @@
 #![tactic(auto, using(crate::proofs::Lists::counted_laws))]
 
-ghost use Rattle.std.specs.Prelude.{◌≡◌, ◌≤◌, length};
+ghost use Rattle.std.specs.Prelude.{◌≡◌};
 ghost use Rattle.home.specs.Words.{write_at, written};
 ghost use Rattle.home.specs.WordHome.{counted, listed};
 

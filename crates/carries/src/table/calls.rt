@@ -1,6 +1,6 @@
-ghost use Rattle.std.specs.Prelude.{◌≡◌, ◌≤◌, min, true, false, [], ◌∷◌, ◌++◌, ◌==◌, length, drop, filter, position, is_some, is_ok, Ok, slice_set};
+ghost use Rattle.std.specs.Prelude.{◌≡◌, min, true, false, [], ◌∷◌, ◌++◌, ◌==◌, length, drop, position, is_some, is_ok, Ok, slice_set};
 ghost use Rattle.carries.specs.Held.{held, lines_in};
-ghost use Rattle.carries.specs.Lines.{line, of_lane, oldest, newest, checked, start_at, if_started, started, newest_at, count_at, Landed};
+ghost use Rattle.carries.specs.Lines.{line, oldest, checked, start_at, if_started, started, newest_at, count_at, Landed};
 ghost use Rattle.carries.specs.Tables.{line_of, without_first};
 
 use super::Table;

@@ -1,6 +1,6 @@
 ghost use Rattle.std.specs.Prelude.{◌≡◌, ◌≤◌, length, nat_lt};
 ghost use Rattle.carries.specs.Lines.{line};
-ghost use Rattle.state.specs.Opening.{between, quiet, refusal_of, opened};
+ghost use Rattle.state.specs.Opening.{quiet, refusal_of, opened};
 ghost use Rattle.engine.specs.Seen.{IsWhole};
 
 use super::Bench;
@@ -17,6 +17,7 @@ impl<H: Home, P: Path> Bench<H, P> {
         ensures home { result.home ≡ home }
         ensures path { result.path ≡ path }
         ensures state { result.state ≡ opened boards entries (H.Source.words home) (P.Path.lines path) P.Path.LENGTH }
+        ensures whole { IsWhole H.Source.words P.Path.lines P.Path.LENGTH result }
     {
         let refusal = refusal_of(boards, entries, &home, &path);
         let (boards, entries) = match refusal {
