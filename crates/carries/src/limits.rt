@@ -1,7 +1,5 @@
-// Lines serve so many boards, each with so many cells; both count from 0.
-pub const BOARDS: u32 = 8;
-
-pub const CELLS: u32 = 64;
+// Lines serve as many boards and cells as a bench can have.
+pub use model::limits::{BOARDS, CELLS};
 
 // The most carries that a line holds.
 pub const LONGEST_LINE: u32 = 8;

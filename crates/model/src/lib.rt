@@ -6,6 +6,7 @@ pub mod answer;
 pub mod carry;
 pub mod entry;
 pub mod event;
+pub mod limits;
 pub mod refusal;
 pub mod search;
 pub mod step;

@@ -7,6 +7,7 @@ use super::Bench;
 use crate::owners::Owners;
 use cache::caches::Caches;
 use home::source::{Home, Source};
+use model::limits::{BOARDS, CELLS, ENTRIES};
 use model::refusal::Refusal;
 use path::path::Path;
 
@@ -54,9 +55,9 @@ impl<H: Home, P: Path> Bench<H, P> {
 fn refusal_of<H: Home, P: Path>(boards: u32, entries: u32, home: &H, path: &P) -> Option<Refusal>
     ensures { result ≡ refusal_of boards entries (H.Source.words home.now) (P.Path.lines path.now) }
 {
-    if !(1..=8).contains(&boards)
-        || !(1..=64).contains(&home.size())
-        || !(1..=8).contains(&entries)
+    if !(1..=BOARDS).contains(&boards)
+        || !(1..=CELLS).contains(&home.size())
+        || !(1..=ENTRIES).contains(&entries)
     {
         return Some(Refusal::SizeOutOfRange);
     }
@@ -70,7 +71,7 @@ fn refusal_of<H: Home, P: Path>(boards: u32, entries: u32, home: &H, path: &P) -
 fn is_quiet<P: Path>(path: &P) -> bool
     ensures { result ≡ quiet (P.Path.lines path.now) }
 {
-    (0..8).all(|board| !waits(path, board))
+    (0..BOARDS).all(|board| !waits(path, board))
 }
 
 // Whether a carry of the board waits.

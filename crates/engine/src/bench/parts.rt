@@ -14,6 +14,7 @@ use cache::cache::Cache;
 use home::source::{Home, Source};
 use model::carry::Carry;
 use model::entry::Entry;
+use model::limits::CELLS;
 use model::refusal::Refusal;
 use path::path::Path;
 
@@ -35,7 +36,7 @@ impl<H: Home, P: Path> Bench<H, P> {
     fn cells(&self) -> u32
         ensures { result ≡ cells_of self.now.state }
     {
-        self.home.size().min(64)
+        self.home.size().min(CELLS)
     }
 
     fn cache(&self, at: Access) -> Cache

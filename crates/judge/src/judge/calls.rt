@@ -10,6 +10,7 @@ use super::{Judge, MOST_EVENTS};
 use crate::history::{History, Wanted};
 use home::source::Source;
 use model::event::{Action, Event};
+use model::limits::{BOARDS, CELLS};
 use model::refusal::Refusal;
 use order::owner::owner;
 
@@ -18,7 +19,7 @@ fn standing_on(boards: u32, cells: u32, board: u32, cell: u32) -> Result<(), Ref
     ensures answer { result ≡ standing boards cells board cell }
     ensures small { OnOk result ((board < 8) × (cell < cells)) }
 {
-    if !(1..=8).contains(&boards) || !(1..=64).contains(&cells) {
+    if !(1..=BOARDS).contains(&boards) || !(1..=CELLS).contains(&cells) {
         return Err(Refusal::SizeOutOfRange);
     }
     if board >= boards {

@@ -7,6 +7,7 @@ use super::super::header::Header;
 use super::Reader;
 use grammar::header_line::{kind_said, number_said};
 use grammar::kind::Kind;
+use model::limits::{BOARDS, CELLS, ENTRIES};
 
 impl Reader<'_> {
     fn kind_line(&mut self, kind: Kind) -> Result<(), Fault>
@@ -28,9 +29,9 @@ impl Reader<'_> {
         ensures after { left self.new ≡ (heading_of kind (left self.old)).1 }
     {
         self.kind_line(kind)?;
-        let boards = self.number_line(b"boards=", 1, 8)?;
-        let cells = self.number_line(b"cells=", 1, 64)?;
-        let entries = self.number_line(b"entries=", 1, 8)?;
+        let boards = self.number_line(b"boards=", 1, BOARDS)?;
+        let cells = self.number_line(b"cells=", 1, CELLS)?;
+        let entries = self.number_line(b"entries=", 1, ENTRIES)?;
         let start = self.number_line(b"start=", 0, u32::MAX)?;
         Ok(Header {
             boards,
