@@ -1,4 +1,5 @@
 ghost use Rattle.std.specs.Prelude.{◌≡◌, IfOk, string_bytes, replicate};
+ghost use Rattle.home.specs.Buffer.{overlay};
 ghost use Rattle.home.specs.PairHome.{size_for, words_of};
 ghost use Rattle.text.specs.Printing.{InRange, text_of};
 ghost use Rattle.report.specs.Output.{answers_to, run_lines};
@@ -30,6 +31,13 @@ impl BenchRun<'_> {
         PairHome::new(self.header.cells, self.header.start)
     }
 
+    // The memory of the bench: one buffer over its home.
+    fn memory(&self) -> HoldingBuffer<PairHome>
+        ensures { overlay (words_of result.below) result.places ≡ replicate (size_for self.now.header.cells) self.now.header.start }
+    {
+        HoldingBuffer::new(self.home())
+    }
+
     // What the steps answer, on a bench of the header's size.
     fn answers(&self, heap: Global) -> Result<Vec<Answer>, AllocError>
         ensures { IfOk result (λ v. v.items ≡ answers_to self.now.header self.now.steps.now) }
@@ -38,7 +46,7 @@ impl BenchRun<'_> {
         let _ = replay(
             self.header.boards,
             self.header.entries,
-            HoldingBuffer::new(self.home()),
+            self.memory(),
             FirstCome::new(),
             self.steps,
             answers.as_mut_slice(),
