@@ -11,7 +11,7 @@ use Rattle.order.specs.declared.view.Views.{Views}
 use Rattle.order.specs.Order.{event_at, At, next, more, By, WriteOf, Point, initial_write, initial_release, event, numbered, Directly, initial, same_board, acquire, Before, link, chain, no_release, IsWrite, Known, Readable}
 use Rattle.order.specs.Test.{later, blank, initially, view_of, writing, joining, putting, viewing, passing, views_from, views, writer_by, writer_in, writer_of, bounds, current, readable, on_boards, ReadableDecided}
 use Rattle.order.specs.Laws.{Within}
-use Rattle.order.proofs.History.{none-not-some, some-event, nothing-not-some, some_same, write-not-release, acquire-not-release, at-within, at-inv, next_more, by-events}
+use Rattle.order.proofs.History.{none-not-some, nothing-not-some, some_same, write-not-release, acquire-not-release, at-within, at-inv, next_more, by-events}
 use Rattle.order.proofs.Growth.{Published, new-not-within, known-new, known_on, known-own}
 use Rattle.order.proofs.Sight.{Over, over-known, over-either, Same, over_same, same_else, same_release, same_acquire, same_published, same_releasing, known_write, over_write, over_new}
 
@@ -305,9 +305,9 @@ boards-more [] g f l = and_from (ltb g.board 8) true (lt-ltb g.board 8 l) refl
 boards-more (e ∷ h) g f l = let r = and_parts (ltb e.board 8) (on_boards h) f in and_from (ltb e.board 8) (on_boards (more h g)) r.0 (boards-more h g r.1 l)
 
 pub board-at : (h : List Event) (n : ℕ) (e : Event) → on_boards h ≡ true → At h n e → e.board < 8
-board-at [] n e f a = absurd (none-not-some a)
-board-at (g ∷ h) zero e f a = absurd (none-not-some a)
-board-at (g ∷ h) (suc zero) e f a = subst (λ (z : Event). z.board < 8) (some-event a) (ltb-true g.board 8 (and_parts (ltb g.board 8) (on_boards h) f).0)
+board-at [] n e f a = cc
+board-at (g ∷ h) zero e f a = cc
+board-at (g ∷ h) (suc zero) e f a = grind (arith, nat_tests)
 board-at (g ∷ h) (suc (suc n)) e f a = board-at h (suc n) e (and_parts (ltb g.board 8) (on_boards h) f).1 a
 
 -- every writer is one of nine

@@ -7,7 +7,7 @@ use Rattle.model.specs.declared.event.Event.{Event}
 use Rattle.model.specs.declared.refusal.Refusal.{Refusal}
 use Rattle.model.specs.declared.step.Step.{Step}
 use Rattle.order.specs.Order.{At}
-use Rattle.order.proofs.History.{none-not-some, some-event}
+use Rattle.order.proofs.History.{none-not-some}
 use Rattle.state.specs.States.{State}
 use Rattle.state.proofs.Ways.{On, Way, refusing, reading, writing, acquiring, releasing, writing_back, ejecting, landing, idling, way}
 use Rattle.rules.specs.Logs.{Logged, event_in, events, read_of}
@@ -58,7 +58,7 @@ all_there {o} (one {log = log} {s = s} {t = t} {x = x} reached takes) =
 all-at : (P : Event → Type 0) (h : List Event) (n : ℕ) (e : Event) → AllByRecursion P h → At h n e → P e
 all-at P [] n e all at = absurd (none-not-some at)
 all-at P (f ∷ h) zero e all at = absurd (none-not-some at)
-all-at P (f ∷ h) (suc zero) e all at = subst P (some-event at) all.0
+all-at P (f ∷ h) (suc zero) e all at = let is : f ≡ e = cc in subst P is all.0
 all-at P (f ∷ h) (suc (suc n)) e all at = all-at P h (suc n) e all.1 at
 
 pub events_there : {o s : State} {log : List Logged} → Reach o log s → (n : ℕ) (e : Event) → At (events log) n e → OnBench o e.board e.cell
