@@ -1,6 +1,6 @@
-ghost use Rattle.std.specs.Prelude.{◌≡◌, min, true, false, [], ◌∷◌, ◌++◌, ◌==◌, length, drop, position, is_some, is_ok, Ok, slice_set};
+ghost use Rattle.std.specs.Prelude.{◌≡◌, min, true, false, [], ◌∷◌, ◌++◌, ◌==◌, length, drop, filter, position, is_some, is_ok, Ok, slice_set};
 ghost use Rattle.carries.specs.Held.{held, lines_in};
-ghost use Rattle.carries.specs.Lines.{line, oldest, checked, start_at, if_started, started, newest_at, count_at, Landed};
+ghost use Rattle.carries.specs.Lines.{line, of_lane, oldest, newest, checked, start_at, if_started, started, newest_at, count_at, Landed};
 ghost use Rattle.carries.specs.Tables.{line_of, without_first};
 
 use super::Table;
@@ -29,6 +29,13 @@ fn first_of(carries: &[Carry], board: u32) -> Option<usize>
     ensures { result ≡ position (λ x. x.board == board) carries.now }
 {
     carries.iter().position(|x| x.board == board)
+}
+
+// The newest carry of a board and a cell. A call of its own, as `first_of` is.
+fn newest_of(carries: &[Carry], board: u32, cell: u32) -> Option<Carry>
+    ensures { result ≡ newest (filter (of_lane board cell) carries.now) }
+{
+    search::newest(carries, board, cell).map(|place| carries[place])
 }
 
 impl<const LENGTH: u32> Table<LENGTH> {
@@ -70,8 +77,7 @@ impl<const LENGTH: u32> Table<LENGTH> {
         ensures { result ≡ newest_at (lines_in self.now) board cell }
     {
         check(board, cell)?;
-        let carries: &[Carry] = &self.carries;
-        Ok(search::newest(carries, board, cell).map(|place| carries[place]))
+        Ok(newest_of(&self.carries, board, cell))
     }
 
     // How many carries wait in a line.
