@@ -112,10 +112,10 @@ module _ (ps : List Place) (c i : ℕ) (e : Entry) (d : Distinct ps) (o : Offere
   new-holds : (q : Place) → clash (place_for c e) q ≡ true → holds q c ≡ true
   new-holds q h = elim e as (λ x. clash (place_for c x) q ≡ true → holds q c ≡ true) [ Entry.Invalid ↦ λ k. grind arith | Entry.Clean w ↦ λ k. k | Entry.Dirty w ↦ λ k. k ] h
 
-  here : stands_in ps c ≡ true → holds (get_or ps i Empty) c ≡ true
+  pub here : stands_in ps c ≡ true → holds (get_or ps i Empty) c ≡ true
   here s = sym (cond-true (stands_in ps c) (holds (get_or ps i Empty) c) (vacant ps i) s) ∙ o.1
 
-  free : stands_in ps c ≡ false → vacant ps i ≡ true
+  pub free : stands_in ps c ≡ false → vacant ps i ≡ true
   free s = sym (cond-false (stands_in ps c) (holds (get_or ps i Empty) c) (vacant ps i) s) ∙ o.1
 
   pub stored : store_in i ps c e ≡ Some (set ps i new)

@@ -8,7 +8,7 @@ use Rattle.cache.specs.declared.place.Place.{Place}
 use Rattle.cache.specs.declared.place.Place.TheVariants.{Empty, Clean, Dirty}
 use Rattle.cache.specs.Places.{holds, is_taken, entry_of, place_for, entry_in, stands_in, taken_in, replace_in, vacant, store_in, Distinct, Found, OfferedAt}
 use Rattle.cache.proofs.Distinct.{both-clash}
-use Rattle.cache.proofs.Looks.{invalid, stands, offered-found, offered-vacant, stored, stored-distinct}
+use Rattle.cache.proofs.Looks.{invalid, stands, offered-found, offered-vacant, here, free, stored, stored-distinct}
 
 -- qs has the entry e of cell c, and of every other cell what ps has
 pub record Entered (ps qs : List Place) (c : ℕ) (e : Entry) : Type 0 where
@@ -59,25 +59,20 @@ entry-there (q ∷ ps) (suc i) d p old new = ap (λ e. cond (holds q d) (entry_o
 
 -- an entry stored in place i, where it is offered
 module _ (ps : List Place) (c i : ℕ) (e : Entry) (d : Distinct ps) (o : OfferedAt ps c i) where
-  here-stands : stands_in ps c ≡ true → holds (get_or ps i Empty) c ≡ true
-  here-stands s = sym (cond-true (stands_in ps c) (holds (get_or ps i Empty) c) (vacant ps i) s) ∙ o.1
-
   here-free : stands_in ps c ≡ false → is_taken (get_or ps i Empty) ≡ false
-  here-free s =
-      not-true (is_taken (get_or ps i Empty))
-      (and_parts (ltb i (length ps)) (not (is_taken (get_or ps i Empty))) (sym (cond-false (stands_in ps c) (holds (get_or ps i Empty) c) (vacant ps i) s) ∙ o.1)).1
+  here-free s = not-true (is_taken (get_or ps i Empty)) (and_parts (ltb i (length ps)) (not (is_taken (get_or ps i Empty))) (free ps c i e d o s)).1
 
   none_other : (j : ℕ) → j ≢ i → holds (get_or ps j Empty) c ≡ false
   none_other j ne =
       ⊎_elim
-      (λ (h : holds (get_or ps j Empty) c ≡ true). absurd (ne (d j i (both-clash (get_or ps j Empty) (get_or ps i Empty) c h (here-stands (stands ps c j h))))))
+      (λ (h : holds (get_or ps j Empty) c ≡ true). absurd (ne (d j i (both-clash (get_or ps j Empty) (get_or ps i Empty) c h (here ps c i e d o (stands ps c j h))))))
       (λ (h : holds (get_or ps j Empty) c ≡ false). h)
       (cases_Bool (holds (get_or ps j Empty) c))
 
   not-here : (k : ℕ) → k ≢ c → holds (get_or ps i Empty) k ≡ false
   not-here k ne =
       ⊎_elim
-      (λ (s : stands_in ps c ≡ true). holds-one (get_or ps i Empty) c k (here-stands s) ne)
+      (λ (s : stands_in ps c ≡ true). holds-one (get_or ps i Empty) c k (here ps c i e d o s) ne)
       (λ (s : stands_in ps c ≡ false). taken-holds (get_or ps i Empty) k (here-free s))
       (cases_Bool (stands_in ps c))
 
