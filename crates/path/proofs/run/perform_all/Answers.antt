@@ -1,5 +1,6 @@
-use Rattle.std.proofs.Common.{◌≡◌, ◌+◌, ◌<◌, length, take, drop, sym, refl, ap, ◌∙◌, subst, arith}
-use Rattle.std.proofs.lemmas.List.{take_all, drop-drop, drop-set-lt}
+use Rattle.std.proofs.Common.{◌≡◌, ◌<◌, length, take, drop, refl, subst, arith}
+use Rattle.std.proofs.lemmas.Grind.{common_steps}
+use Rattle.std.proofs.lemmas.List.{take_all}
 use Rattle.path.specs.Runs.{Run, end}
 use Rattle.path.proofs.Lanes.{in_order, run_more}
 use Rattle.path.proofs.run.perform_all.Goals as goal
@@ -15,10 +16,7 @@ loop-i-preserved g c =
     let place : i < length rs = omega arith in (
       run_more g.P.Path.LENGTH (g.P.Path.lines c.args.path.now) (g.P.Path.lines c.loop-i.path) (g.P.Path.lines c.perform.new.path) os rs i _ c.perform.result
           c.loop-i-test.true place c.loop-i.invariant.0 c.perform.ensures,
-      drop-set-lt (i + 1) rs i c.perform.result (omega arith)
-          ∙ sym (drop-drop 1 i rs)
-          ∙ ap (drop 1) c.loop-i.invariant.1
-          ∙ drop-drop 1 i c.args.replies.now,
+      grind (arith, common_steps),
     )
 
 pub returns : goal.returns
