@@ -1,5 +1,7 @@
 ghost use Rattle.std.specs.Prelude.{◌≡◌, length, replicate, None, slice_index_or, slice_set};
 
+use model::limits::CELLS;
+
 // Which board owns each cell, if one does.
 #[derive(Clone, Copy)]
 pub struct Owners {
@@ -24,7 +26,7 @@ impl Owners {
         ensures { self.new.of ≡ slice_set self.old.of cell owner }
     {
         // by index and not by `get_mut`, after which a proof knows no element of the table
-        if cell < 64 {
+        if cell < CELLS {
             self.of[cell as usize] = owner;
         }
     }

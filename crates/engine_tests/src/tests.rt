@@ -48,7 +48,7 @@ fn opening_checks_sizes(rt: HostRuntime) {
     refused(&rt, pairs(1, 0, 1), Refusal::SizeOutOfRange);
     refused(&rt, pairs(1, 9, 1), Refusal::SizeOutOfRange);
     refused(&rt, pairs(1, 1, 0), Refusal::SizeOutOfRange);
-    refused(&rt, pairs(4_294_967_295, 1, 1), Refusal::SizeOutOfRange);
+    refused(&rt, pairs(u32::MAX, 1, 1), Refusal::SizeOutOfRange);
     let mut list = [0; 65];
     let wide = WordHome::new(&mut list);
     refused(
@@ -84,8 +84,8 @@ fn boards_and_cells_at_their_edges(rt: HostRuntime) {
     assert_eq!(rt; bench.read(3, 4), no(Refusal::NoSuchBoard));
     assert_eq!(rt; bench.read(2, 5), no(Refusal::NoSuchCell));
     assert_eq!(rt; bench.read(3, 5), no(Refusal::NoSuchBoard));
-    assert_eq!(rt; bench.write(2, 4_294_967_295, 1), no(Refusal::NoSuchCell));
-    assert_eq!(rt; bench.acquire(4_294_967_295, 0), no(Refusal::NoSuchBoard));
+    assert_eq!(rt; bench.write(2, u32::MAX, 1), no(Refusal::NoSuchCell));
+    assert_eq!(rt; bench.acquire(u32::MAX, 0), no(Refusal::NoSuchBoard));
     assert_eq!(rt; bench.eject(2, 5), no(Refusal::NoSuchCell));
     assert_eq!(rt; bench.land(), Ok(None));
 }

@@ -39,7 +39,7 @@ pub fn kind_said(kind: Kind, item: Item<'_>) -> Result<(), Refusal>
     }
 }
 
-// The number of a header line whose name and equals sign are `front`.
+// The number behind `front`.
 fn number_after(front: &[u8], line: &[u8]) -> Option<u32>
     ensures { result ≡ number_after front.now line.now }
 {
@@ -57,7 +57,7 @@ fn ranged(low: u32, high: u32, number: Option<u32>) -> Result<u32, Refusal>
     }
 }
 
-// The number of such a line if it is in range, or why not.
+// The number of a header line whose name and equals sign are `front` if it is in range, or why not.
 pub fn number_said(front: &[u8], low: u32, high: u32, item: Item<'_>) -> Result<u32, Refusal>
     ensures { result ≡ number_said front.now low high (Some (shown item.entry)) }
 {

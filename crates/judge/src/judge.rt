@@ -8,8 +8,8 @@ pub mod calls;
 // The most events that a judge notes.
 pub const MOST_EVENTS: usize = 2_048;
 
-// What may stand in the places of a list of events that are still free: some event, since the list is lent by the caller as
-// events, and no `Option`. Written out, since a constant calls no `default`.
+// What may stand in the places of a list of events that are still free: some event and no `Option`, since the caller lends a
+// list of events. Written out, since a constant calls no `default`.
 pub const FREE: Event = Event {
     board: 0,
     cell: 0,

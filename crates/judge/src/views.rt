@@ -8,7 +8,8 @@ use order::view::{NO_BOARD, View, Views, WRITERS};
 fn greater(mut a: [u32; WRITERS], b: [u32; WRITERS]) -> [u32; WRITERS]
     ensures { result ≡ later a b }
 {
-    // By index: the proof doesn't know after a `zip` what was written, nor of `array::from_fn` that each call read these two.
+    // By index: after a `zip` the proof doesn't know what was written, and of `array::from_fn` not that each call read `a`
+    // and `b`.
     for (i, bound) in a.iter_mut().enumerate() {
         *bound = (*bound).max(b[i]);
     }

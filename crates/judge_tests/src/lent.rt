@@ -6,7 +6,8 @@ use judge::judge::Judge;
 use model::event::Event;
 use model::refusal::Refusal;
 
-// What a caller knows of the list it lent, once the judge is gone: a refused event changed nothing, an accepted one the first place.
+// What a caller knows of the list it lent, once the judge is gone: a refused event changed nothing, an accepted one the
+// first place.
 pub fn note_one(list: &mut [Event], event: Event) -> Result<u32, Refusal>
     ensures { list.new ≡ placed result list.old 0 event }
 {

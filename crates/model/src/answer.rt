@@ -20,10 +20,7 @@ impl From<Result<(), Refusal>> for Answer {
     ghost from_gives = { λ r a. a ≡ done_answer r };
 
     fn from(answer: Result<(), Refusal>) -> Answer {
-        match answer {
-            Ok(()) => Answer::Done,
-            Err(refusal) => Answer::Refused(refusal),
-        }
+        answer.map_or_else(Answer::Refused, |()| Answer::Done)
     }
 }
 
@@ -34,10 +31,7 @@ impl From<Result<u32, Refusal>> for Answer {
     ghost from_gives = { λ r a. a ≡ word_answer r };
 
     fn from(answer: Result<u32, Refusal>) -> Answer {
-        match answer {
-            Ok(word) => Answer::Word(word),
-            Err(refusal) => Answer::Refused(refusal),
-        }
+        answer.map_or_else(Answer::Refused, Answer::Word)
     }
 }
 

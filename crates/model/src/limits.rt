@@ -1,4 +1,5 @@
-// A bench has so many boards at most, each cache of it so many entries, and its memory so many cells; all count from 0.
+// A bench has so many boards at most, each cache of it so many entries, and its memory so many cells. Boards and cells
+// count from 0.
 pub const BOARDS: u32 = 8;
 
 pub const CELLS: u32 = 64;

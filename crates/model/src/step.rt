@@ -1,7 +1,8 @@
 use super::event::{Action, Event};
 
 // One step of a run: what a board does to a cell, or the landing of one write back, which is the path's own choice.
-// Board and cell stand as two numbers here and in every public call, as a log and the station firmware have them.
+// Board and cell are two numbers here and in every public call, as a log has them; a type for each would need a conversion
+// that can be refused.
 #[derive(Clone, Copy, PartialEq, Eq, Debug)]
 pub enum Step {
     Read { board: u32, cell: u32 },

@@ -44,6 +44,7 @@ impl Path for FirstCome {
 
     fn capacity() -> u32
         ensures value { result ≡ 8 }
+        ensures constant { result ≡ ⟦<Self as Path>⟧.LENGTH }
     {
         Self::LENGTH
     }

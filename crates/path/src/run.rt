@@ -15,6 +15,7 @@ fn perform<P: Path>(path: &mut P, order: Order) -> Reply
     }
 }
 
+// Orders and replies are two lists, as the caller lends them.
 fn perform_all<P: Path>(path: &mut P, orders: &[Order], replies: &mut [Reply])
     requires { length orders.now ≤ length replies.old }
     ensures { Ran P.Path.LENGTH (P.Path.lines path.old) orders.now replies.old replies.new (P.Path.lines path.new) }

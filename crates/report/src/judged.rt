@@ -42,8 +42,8 @@ fn note(hearing: &mut Hearing<'_, PairHome>, event: Option<Event>)
     }
 }
 
-// The first step that read wrongly, after the events that the judge has noted. Steps and answers are two lists, as the caller
-// lends them.
+// The first step that read wrongly, after the events that the judge has noted. Steps and answers are two lists, as the
+// caller lends them.
 fn first_from(
     hearing: &mut Hearing<'_, PairHome>,
     steps: &[Step],

@@ -90,6 +90,7 @@ impl Path for Rota {
 
     fn capacity() -> u32
         ensures value { result ≡ 4 }
+        ensures constant { result ≡ ⟦<Self as Path>⟧.LENGTH }
     {
         Self::LENGTH
     }

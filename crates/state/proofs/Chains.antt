@@ -1,4 +1,4 @@
--- Lists of steps: what they keep, and that each has answers.
+-- Every list of steps has answers.
 use Rattle.std.proofs.Common.{List, [], ◌∷◌}
 use Rattle.model.specs.declared.answer.Answer.{Answer}
 use Rattle.model.specs.declared.step.Step.{Step}
@@ -8,10 +8,6 @@ use Rattle.state.specs.Sound.{Sound}
 use Rattle.state.specs.States.{State}
 use Rattle.state.proofs.Answered.{answered}
 use Rattle.state.proofs.Kept.{sound-kept}
-
-pub sound-chain : {s t : State} {calls : List Step} {answers : List Answer} → Chain s calls answers t → Sound s → Sound t
-sound-chain end k = k
-sound-chain {s = s} (link {t = t} {call = call} {answer = a} takes chain) k = sound-chain chain (sound-kept s t call a takes k)
 
 pub lists_answered : ListsAnswered
 lists_answered s [] k = ([], s, end)

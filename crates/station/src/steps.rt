@@ -11,7 +11,7 @@ use judge::hearing::Hearing;
 use text::fault::Fault;
 use text::trace::Trace;
 
-// Does what the judge has to do at a step, which stands on that line. An error is the verdict that ends the judging there.
+// Does what the judge has to do at the step of that line. An error is the verdict that ends the judging there.
 fn perform(hearing: &mut Hearing<'_, PairHome>, task: Task, line: u32) -> Result<(), Verdict>
     ensures answer { result_err result ≡ ended (task_answer hearing.old.history hearing.old.boards hearing.old.words task) line }
     ensures heard { hearing.new ≡ record hearing.old { history = history_after hearing.old.history hearing.old.boards hearing.old.words task } }

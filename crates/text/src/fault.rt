@@ -12,8 +12,8 @@ pub enum Layer {
     Judge,
 }
 
-// What is wrong with a trace, and at which line; line 0 is the text as a whole. It is no Option, since the 0 is printed
-// and is a part of the number for C.
+// What is wrong with a trace, and at which line; line 0 is the text as a whole. The line is no `Option`, since its
+// 0 is printed and is a part of the number for C.
 #[derive(Clone, Copy, PartialEq, Eq, Debug)]
 pub struct Fault {
     pub refusal: Refusal,

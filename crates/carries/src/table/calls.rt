@@ -1,7 +1,7 @@
-ghost use Rattle.std.specs.Prelude.{◌≡◌, min, true, false, [], ◌∷◌, ◌++◌, ◌==◌, length, drop, filter, position, is_some, is_ok, Ok, slice_set};
+ghost use Rattle.std.specs.Prelude.{◌≡◌, ℕ, min, true, false, [], ◌∷◌, ◌++◌, ◌==◌, length, drop, filter, position, is_some, is_ok, Ok, slice_set};
 ghost use Rattle.carries.specs.Held.{held, lines_in};
 ghost use Rattle.carries.specs.Lines.{line, of_lane, oldest, newest, checked, start_at, if_started, started, newest_at, count_at, Landed};
-ghost use Rattle.carries.specs.Tables.{line_of, without_first};
+ghost use Rattle.carries.specs.Tables.{line_of, Short, without_first};
 
 use super::Table;
 use crate::limits::{BOARDS, CELLS, LONGEST_LINE};
@@ -31,7 +31,7 @@ fn first_of(carries: &[Carry], board: u32) -> Option<usize>
     carries.iter().position(|x| x.board == board)
 }
 
-// The newest carry of a board and a cell. A call of its own, as `first_of` is.
+// The newest carry of a board and a cell. A call of its own, so that `newest` is proved from this one fact.
 fn newest_of(carries: &[Carry], board: u32, cell: u32) -> Option<Carry>
     ensures { result ≡ newest (filter (of_lane board cell) carries.now) }
 {
@@ -108,6 +108,7 @@ impl<const LENGTH: u32> Table<LENGTH> {
         ensures after { lines_in self.new ≡ slice_set (lines_in self.old) board (drop 1 (line (lines_in self.old) board)) }
         ensures rest { held self.new ≡ without_first board (held self.old) }
         ensures landed { is_some result ≡ true → Landed (lines_in self.old) result (lines_in self.new) }
+        ensures short { (n : ℕ) → Short n (held self.old) → Short n (held self.new) }
         ensures idle { is_some result ≡ false → self.new ≡ self.old }
     {
         let place = first_of(&self.carries, board)?;

@@ -73,7 +73,8 @@ impl<H: Home, P: Path> Bench<H, P> {
         self.caches.put(at.board, cache);
     }
 
-    // The word that a read finds where the board has none cached: the newest of its own lane, or else the home's.
+    // The word that a read finds where the board has none cached: the newest of its own lane, or else the home's. The cell
+    // was checked, so the home never refuses it; nor does the path below.
     pub(crate) fn fetch(&self, at: Access) -> u32
         ensures { result ≡ fetched self.now.state at.board at.cell }
     {

@@ -8,10 +8,11 @@ use super::PairHome;
 use crate::pair::Pair;
 use crate::source::{Home, Source, check_cell};
 use arrayvec::ArrayVec;
+use model::limits::CELLS;
 use model::refusal::Refusal;
 
 // The most cells of a pair home.
-pub const MOST_PAIRS: u32 = 64;
+pub const MOST_PAIRS: u32 = CELLS;
 
 impl PairHome {
     // Asked for more than 64 cells it has none.

@@ -152,8 +152,8 @@ impl<'a> Judge<'a> {
         Ok(history.overwritten(board, cell)[writer] <= number)
     }
 
-    // The highest-numbered write of the word that the board may read on the cell, if there is one. The initial write's number
-    // is 0, and no case of its own: writes are known to callers by their numbers alone.
+    // The highest-numbered write of the word that the board may read on the cell, if there is one. The initial write's
+    // number is 0, and no case of its own: writes are known to callers by their numbers alone.
     pub fn legal<S: Source>(
         &self,
         boards: u32,

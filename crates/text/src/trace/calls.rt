@@ -50,7 +50,7 @@ impl<'a> Trace<'a> {
         self.next_step()
     }
 
-    // Not by `next_line`: the end is seen only once remarks are passed, and it would look for one at each step again.
+    // Not by `next_line`: the end shows only behind the remarks; tried as one function, and five goals stayed open.
     fn next_step(&mut self) -> Result<Option<PlacedStep>, Fault>
         ensures answer { result ≡ next_of (steps_of self.old) }
         ensures after { steps_of self.new ≡ rest (steps_of self.old) }

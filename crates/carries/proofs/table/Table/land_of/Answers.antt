@@ -32,5 +32,6 @@ returns g c =
       after = rw c.remove.ensures.items some.1;
       rest = c.remove.ensures.items ∙ some.2;
       landed = λ e. rw c.remove.ensures.items some.3;
+      short = λ n s b. rw c.remove.ensures.items (short-removed n (held t) i s b);
       idle = λ e. cc;
     }
