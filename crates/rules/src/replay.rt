@@ -1,6 +1,7 @@
 ghost use Rattle.std.specs.Prelude.{◌≡◌, []};
 ghost use Rattle.state.specs.Opening.{opened};
 ghost use Rattle.state.specs.Runs.{Ran, Went};
+ghost use Rattle.engine.specs.Seen.{IsWhole};
 ghost use Rattle.rules.specs.Calls.{ran_onto};
 ghost use Rattle.rules.specs.Cases.{RulesOfBench};
 ghost use Rattle.rules.specs.Rules.{KeepsModel};
@@ -31,6 +32,7 @@ pub fn replay<H: Home, P: Path>(
 ) -> Replayed<H, P>
     ensures run { Ran (opened boards entries (H.Source.words home) (P.Path.lines path) P.Path.LENGTH) steps.now answers.old result.result answers.new result.bench.state }
     ensures path { Went P.Path.starts P.Path.lands (opened boards entries (H.Source.words home) (P.Path.lines path) P.Path.LENGTH) path steps.now result.result answers.new result.bench.state result.bench.path }
+    ensures whole { IsWhole H.Source.words P.Path.lines P.Path.LENGTH result.bench }
     ensures model { KeepsModel (opened boards entries (H.Source.words home) (P.Path.lines path) P.Path.LENGTH) (ran_onto result.result [] steps.now answers.new) }
     ensures rules { RulesOfBench }
 {

@@ -6,6 +6,7 @@ ghost use Rattle.state.specs.Runs.{Carries, traffic_of};
 ghost use Rattle.state.specs.Sound.{Sound};
 ghost use Rattle.state.specs.Steps.{Takes};
 ghost use Rattle.engine.specs.Benches.{is_refused};
+ghost use Rattle.engine.specs.Seen.{IsWhole};
 
 use super::Bench;
 use home::source::Home;
@@ -23,9 +24,13 @@ impl<H: Home, P: Path> Bench<H, P> {
         ensures step { Takes self.old.state (Read board cell) (word_answer result) self.new.state }
         ensures path { Carries P.Path.starts P.Path.lands self.old.path (traffic_of self.old.state (Read board cell) (word_answer result)) self.new.path }
         ensures refused { is_ok result ≡ false → self.new ≡ self.old }
+        ensures whole { IsWhole H.Source.words P.Path.lines P.Path.LENGTH self.old × IsWhole H.Source.words P.Path.lines P.Path.LENGTH self.new }
     {
+        self.whole();
         let at = self.checked(board, cell)?;
-        self.read_at(at)
+        let answer = self.read_at(at);
+        self.whole();
+        answer
     }
 
     // The word goes into the board's cache and no further; its entry is dirty.
@@ -33,9 +38,13 @@ impl<H: Home, P: Path> Bench<H, P> {
         ensures step { Takes self.old.state (Write board cell word) (done_answer result) self.new.state }
         ensures path { Carries P.Path.starts P.Path.lands self.old.path (traffic_of self.old.state (Write board cell word) (done_answer result)) self.new.path }
         ensures refused { is_ok result ≡ false → self.new ≡ self.old }
+        ensures whole { IsWhole H.Source.words P.Path.lines P.Path.LENGTH self.old × IsWhole H.Source.words P.Path.lines P.Path.LENGTH self.new }
     {
+        self.whole();
         let at = self.checked(board, cell)?;
-        self.write_at(at, word)
+        let answer = self.write_at(at, word);
+        self.whole();
+        answer
     }
 
     // The board becomes the owner of a cell that has none; what it has clean of the cell, it forgets.
@@ -43,9 +52,13 @@ impl<H: Home, P: Path> Bench<H, P> {
         ensures step { Takes self.old.state (Acquire board cell) (done_answer result) self.new.state }
         ensures path { Carries P.Path.starts P.Path.lands self.old.path (traffic_of self.old.state (Acquire board cell) (done_answer result)) self.new.path }
         ensures refused { is_ok result ≡ false → self.new ≡ self.old }
+        ensures whole { IsWhole H.Source.words P.Path.lines P.Path.LENGTH self.old × IsWhole H.Source.words P.Path.lines P.Path.LENGTH self.new }
     {
+        self.whole();
         let at = self.checked(board, cell)?;
-        self.acquire_at(at)
+        let answer = self.acquire_at(at);
+        self.whole();
+        answer
     }
 
     // The owner gives the cell back, once all that it wrote to it has reached the memory.
@@ -53,9 +66,13 @@ impl<H: Home, P: Path> Bench<H, P> {
         ensures step { Takes self.old.state (Release board cell) (done_answer result) self.new.state }
         ensures path { Carries P.Path.starts P.Path.lands self.old.path (traffic_of self.old.state (Release board cell) (done_answer result)) self.new.path }
         ensures refused { is_ok result ≡ false → self.new ≡ self.old }
+        ensures whole { IsWhole H.Source.words P.Path.lines P.Path.LENGTH self.old × IsWhole H.Source.words P.Path.lines P.Path.LENGTH self.new }
     {
+        self.whole();
         let at = self.checked(board, cell)?;
-        self.release_at(at)
+        let answer = self.release_at(at);
+        self.whole();
+        answer
     }
 
     // A dirty word is sent to the memory; the entry stays, clean.
@@ -63,9 +80,13 @@ impl<H: Home, P: Path> Bench<H, P> {
         ensures step { Takes self.old.state (WriteBack board cell) (done_answer result) self.new.state }
         ensures path { Carries P.Path.starts P.Path.lands self.old.path (traffic_of self.old.state (WriteBack board cell) (done_answer result)) self.new.path }
         ensures refused { is_ok result ≡ false → self.new ≡ self.old }
+        ensures whole { IsWhole H.Source.words P.Path.lines P.Path.LENGTH self.old × IsWhole H.Source.words P.Path.lines P.Path.LENGTH self.new }
     {
+        self.whole();
         let at = self.checked(board, cell)?;
-        self.write_back_at(at)
+        let answer = self.write_back_at(at);
+        self.whole();
+        answer
     }
 
     // The cell's place becomes empty; a dirty word is sent to the memory first.
@@ -73,13 +94,30 @@ impl<H: Home, P: Path> Bench<H, P> {
         ensures step { Takes self.old.state (Eject board cell) (done_answer result) self.new.state }
         ensures path { Carries P.Path.starts P.Path.lands self.old.path (traffic_of self.old.state (Eject board cell) (done_answer result)) self.new.path }
         ensures refused { is_ok result ≡ false → self.new ≡ self.old }
+        ensures whole { IsWhole H.Source.words P.Path.lines P.Path.LENGTH self.old × IsWhole H.Source.words P.Path.lines P.Path.LENGTH self.new }
     {
+        self.whole();
         let at = self.checked(board, cell)?;
-        self.eject_at(at)
+        let answer = self.eject_at(at);
+        self.whole();
+        answer
     }
 
     // One write back reaches the memory, which one is the path's choice; or none waits.
     pub fn land(&mut self) -> Result<Option<Carry>, Refusal>
+        ensures step { Takes self.old.state Land (land_answer result) self.new.state }
+        ensures path { Carries P.Path.starts P.Path.lands self.old.path (traffic_of self.old.state Land (land_answer result)) self.new.path }
+        ensures refused { is_ok result ≡ false → self.new ≡ self.old }
+        ensures whole { IsWhole H.Source.words P.Path.lines P.Path.LENGTH self.old × IsWhole H.Source.words P.Path.lines P.Path.LENGTH self.new }
+    {
+        self.whole();
+        let answer = self.land_next();
+        self.whole();
+        answer
+    }
+
+    // The landing itself. A call of its own, since what each arm tells of the home is lost where they join before a call.
+    fn land_next(&mut self) -> Result<Option<Carry>, Refusal>
         ensures step { Takes self.old.state Land (land_answer result) self.new.state }
         ensures path { Carries P.Path.starts P.Path.lands self.old.path (traffic_of self.old.state Land (land_answer result)) self.new.path }
         ensures refused { is_ok result ≡ false → self.new ≡ self.old }
@@ -102,10 +140,12 @@ impl<H: Home, P: Path> Bench<H, P> {
         ensures sound { Sound self.old.state × Sound self.new.state }
         ensures path { Carries P.Path.starts P.Path.lands self.old.path (traffic_of self.old.state step result) self.new.path }
         ensures refused { is_refused result ≡ true → self.new ≡ self.old }
+        ensures whole { IsWhole H.Source.words P.Path.lines P.Path.LENGTH self.old × IsWhole H.Source.words P.Path.lines P.Path.LENGTH self.new }
     {
-        // does nothing: it opens the bench, so that the proof sees the invariant
-        let _ = &self.boards;
-        self.take(step)
+        self.whole();
+        let answer = self.take(step);
+        self.whole();
+        answer
     }
 
     // The step itself. A call of its own, so that the two facts of soundness are shown once and not for each of the seven.

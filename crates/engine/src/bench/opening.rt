@@ -36,10 +36,19 @@ impl<H: Home, P: Path> Bench<H, P> {
         }
     }
 
+    // Does nothing: it opens the bench, so that a caller's proof sees what holds of every bench by its make.
+    pub(crate) fn whole(&self)
+        ensures { IsWhole H.Source.words P.Path.lines P.Path.LENGTH self.now }
+    {
+        let _ = &self.boards;
+    }
+
     // Why the opening was refused, if it was.
     pub fn refusal(&self) -> Option<Refusal>
-        ensures { result ≡ self.now.state.refusal }
+        ensures refusal { result ≡ self.now.state.refusal }
+        ensures whole { IsWhole H.Source.words P.Path.lines P.Path.LENGTH self.now }
     {
+        self.whole();
         self.refusal
     }
 

@@ -1,5 +1,6 @@
 ghost use Rattle.std.specs.Prelude.{◌≡◌, ◌<◌, ◌≤◌, false, length, take, is_ok, slice_set};
 ghost use Rattle.state.specs.Runs.{RanAll, Ran, Course, Went};
+ghost use Rattle.engine.specs.Seen.{IsWhole};
 
 use super::Bench;
 use home::source::Home;
@@ -16,11 +17,14 @@ impl<H: Home, P: Path> Bench<H, P> {
         ensures run { Ran self.old.state steps.now answers.old result answers.new self.new.state }
         ensures path { Went P.Path.starts P.Path.lands self.old.state self.old.path steps.now result answers.new self.new.state self.new.path }
         ensures refused { is_ok result ≡ false → self.new ≡ self.old }
+        ensures whole { IsWhole H.Source.words P.Path.lines P.Path.LENGTH self.old × IsWhole H.Source.words P.Path.lines P.Path.LENGTH self.new }
     {
+        self.whole();
         if answers.len() < steps.len() {
             return Err(Refusal::AnswersTooShort);
         }
         self.perform_all(steps, answers);
+        self.whole();
         Ok(())
     }
 

@@ -1,6 +1,6 @@
 use Rattle.std.proofs.Common.{rules}
 use Rattle.engine.proofs.Ways.{any, quiet-lines}
-use Rattle.engine.proofs.bench.Bench.land.Goals as goal
+use Rattle.engine.proofs.bench.Bench.land_next.Goals as goal
 
 pub returns-then-self-eq0-clause-step : goal.returns-then-self-eq0-clause-step
 returns-then-self-eq0-clause-step g c = (any, search rules)
