@@ -1,5 +1,5 @@
 -- Carries of all boards in the order started: the eight lines that they make, with one more and with one less.
-use Rattle.std.proofs.Common.{◌≡◌, ℕ, zero, suc, ◌+◌, ◌*◌, ◌<◌, ◌≤◌, Bool, true, false, ◌&&◌, eqb, ltb, ◌≢◌, List, [], ◌∷◌, ◌++◌, length, get_or, take, drop, set, Some, None, Ok, filter, Option, Result, sym, refl, ap, ◌∙◌, subst, ⊎_elim, arith}
+use Rattle.std.proofs.Common.{◌≡◌, ℕ, zero, suc, ◌+◌, ◌*◌, ◌<◌, ◌≤◌, Bool, true, false, ◌&&◌, eqb, ltb, ◌≢◌, List, [], ◌∷◌, ◌++◌, length, get_or, take, drop, set, Some, None, Ok, filter, Option, Result, sym, refl, ap, ◌∙◌, subst, ⊎_elim, min, arith}
 use Rattle.std.specs.List.{remove, AllByRecursion, position, position_or_len}
 use Rattle.std.proofs.lemmas.List.{set-get_or, length-set, ext_get_or, append-nil, get_or_past}
 use Rattle.std.proofs.lemmas.List.Elements.{filter-append}
@@ -243,3 +243,7 @@ pub newest_in : (b c : ℕ) (xs : List Carry) → checked b c (Ok (tt {0})) ≡ 
 newest_in b c xs e =
     let on = checks b c tt e in
     checked-on b c (Ok (newest (lane (lines_of xs) b c))) on.0 on.1 ∙ ap (λ l. Ok (newest l)) (lane_of xs b c on.0)
+
+-- a line that holds as many as its table's lines holds what they hold
+pub least_again : (n : ℕ) → min n (min n 8) ≡ min n 8
+least_again n = omega arith

@@ -1,2 +1,3 @@
 pub mod ByBoard
 pub mod Newest
+pub mod Rows

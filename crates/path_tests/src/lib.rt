@@ -1,6 +1,8 @@
 // What paths do on examples: bad input, full lines, empty paths, and the order of landings.
 #![tactic(auto)]
 
+pub mod within;
+
 #[cfg(test)]
 mod tests {
     use model::carry::Carry;
@@ -9,6 +11,7 @@ mod tests {
     use path::order::{Order, Reply};
     use path::path::Path;
     use path::run::run;
+    use path::table::Table;
     use rota::rota::Rota;
     use std::process::Abort;
     use std::test::Fail;
@@ -88,6 +91,27 @@ mod tests {
     fn full_lines(rt: HostRuntime) -> Result<(), Fail> {
         fills(&rt, &mut FirstCome::new(), 8)?;
         fills(&rt, &mut Rota::new(), 4)
+    }
+
+    // One table takes more or fewer carries in a line, by the length that each start is given; never more than its own.
+    #[test]
+    fn lengths_given_at_each_start(rt: HostRuntime) -> Result<(), Fail> {
+        let mut table: Table<8> = Table::new();
+        for length in [1, 2, 9] {
+            assert_eq!(rt; table.start_within(length, carry(3, 5, length)), Ok(()));
+        }
+        for length in [0, 1, 3] {
+            assert_eq!(rt;
+                table.start_within(length, carry(3, 5, 90)),
+                Err(Refusal::LineFull)
+            );
+        }
+        assert_eq!(rt;
+            table.start_within(0, carry(8, 64, 91)),
+            Err(Refusal::NoSuchBoard)
+        );
+        assert_eq!(rt; table.count(3)?, 3);
+        Ok(())
     }
 
     // Where nothing waits, a landing says so and changes nothing.

@@ -56,15 +56,27 @@ impl<const LENGTH: u32> Table<LENGTH> {
     }
 
     // Starts a carry, if its board and its cell exist and its line has room.
-    #[tactic(auto, using(crate::proofs::ByBoard::lines))]
+    #[tactic(auto, using(crate::proofs::ByBoard::least_again))]
     pub fn start(&mut self, carry: Carry) -> Result<(), Refusal>
         ensures answer { result ≡ start_at (min LENGTH 8) (lines_in self.old) carry }
         ensures after { lines_in self.new ≡ started (min LENGTH 8) (lines_in self.old) carry }
         ensures behind { held self.new ≡ if_started result (held self.old ++ carry ∷ []) (held self.old) }
         ensures refused { is_ok result ≡ false → self.new ≡ self.old }
     {
+        self.start_within(LENGTH, carry)
+    }
+
+    // The same in a line that is to hold `length` carries at most, a length that is known only when the program runs.
+    #[tactic(auto, using(crate::proofs::ByBoard::lines))]
+    pub fn start_within(&mut self, length: u32, carry: Carry) -> Result<(), Refusal>
+        ensures answer { result ≡ start_at (min length (min LENGTH 8)) (lines_in self.old) carry }
+        ensures after { lines_in self.new ≡ started (min length (min LENGTH 8)) (lines_in self.old) carry }
+        ensures behind { held self.new ≡ if_started result (held self.old ++ carry ∷ []) (held self.old) }
+        ensures short { Short (min length 8) (held self.old) → Short (min length 8) (held self.new) }
+        ensures refused { is_ok result ≡ false → self.new ≡ self.old }
+    {
         check(carry.board, carry.cell)?;
-        if self.waiting(carry.board) >= LENGTH.min(LONGEST_LINE) {
+        if self.waiting(carry.board) >= length.min(LENGTH.min(LONGEST_LINE)) {
             return Err(Refusal::LineFull);
         }
         self.carries.push(carry);
