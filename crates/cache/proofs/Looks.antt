@@ -103,6 +103,9 @@ pub offered : (ps : List Place) (c : ℕ) (o r : Option ℕ) → Found ps c o �
 offered ps c None r f v = offered-vacant ps c r f v
 offered ps c (Some i) r f e = rw e (offered-found ps c i f)
 
+-- what a cell's own place, or that it has none, means for an entry that is replaced
+pub ruleset replacing = (offered-found, replace-nowhere)
+
 -- storing where it is offered
 
 module _ (ps : List Place) (c i : ℕ) (e : Entry) (d : Distinct ps) (o : OfferedAt ps c i) where

@@ -34,7 +34,9 @@ impl Places {
         self.at[i] = place;
     }
 
-    // A place where the cell stands.
+    // A place where the cell stands. Kept a call: in a caller that has the places by value it would be taken apart into
+    // their words, which costs more than the look.
+    #[inline(never)]
     pub(crate) fn find(&self, cell: u32) -> Option<usize>
         ensures { Found self.now.at cell result }
     {

@@ -42,12 +42,14 @@ impl Cache {
     }
 
     // The cache with another entry for a cell that it has; nothing changes where it has none.
+    #[tactic(auto, using(crate::proofs::Looks::replacing))]
     pub fn replace(self, cell: u32, entry: Entry) -> Cache
         ensures { table_of result ≡ replace_in (table_of self) cell (place_for cell entry) }
     {
-        self.places
-            .find(cell)
-            .map_or(self, |at| self.with(at, cell, entry))
+        let Some(at) = self.places.find(cell) else {
+            return self;
+        };
+        self.with(at, cell, entry)
     }
 
     // The place where the cell stands, or an empty one.
