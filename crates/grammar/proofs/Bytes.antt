@@ -1,8 +1,23 @@
 -- What stands at the front of a list of bytes.
-use Rattle.std.proofs.Common.{◌≡◌, ℕ, List, [], ◌∷◌, ◌++◌, length, get_or, Some, None, Option, sym, refl, ap, ◌∙◌, arith, Bor, MatchOption}
+use Rattle.std.proofs.Common.{◌≡◌, ℕ, ◌-◌, ◌<◌, ◌≤◌, eqb, List, [], ◌∷◌, ◌++◌, length, get_or, take, drop, Some, None, Option, sym, refl, ap, ◌∙◌, arith, Bor, MatchOption}
+use Rattle.std.specs.List.{between}
 use Rattle.std.specs.Option.{option_map}
+use Rattle.std.proofs.lemmas.List.{take_rest}
+use Rattle.std.proofs.lemmas.Slice.{first_rest}
+use Rattle.std.proofs.lemmas.Bool.{eq-eqb, cond-true}
 use Rattle.std.proofs.lemmas.Bool.Decides.{nat_tests}
+use Rattle.grammar.specs.Numbers.{first_byte}
+use Rattle.grammar.specs.Pieces.{letter_and_rest}
 use Rattle.grammar.specs.Fields.{after}
+
+pub first-is : (s : List ℕ) → 0 < length s → Some (get_or s 0 0, between 1 (length s) s) ≡ first_byte s
+first-is s h = sym (ap first_byte (first_rest s 0 h))
+
+pub letter-is : (l : List ℕ) → 2 ≤ length l → get_or l 1 0 ≡ 61 → Some (get_or l 0 0, take (length l - 2) (drop 2 l)) ≡ letter_and_rest l
+letter-is [] h e = absurd (omega arith)
+letter-is (a ∷ []) h e = absurd (omega arith)
+letter-is (a ∷ b ∷ rest) h e =
+    ap (λ r. Some (a, r)) (take_rest (a ∷ b ∷ rest) 2) ∙ sym (cond-true (eqb b 61) (Some (a, rest)) None (eq-eqb b 61 e))
 
 pub after-append : (p x : List ℕ) → after p (p ++ x) ≡ Some x
 after-append [] x = refl

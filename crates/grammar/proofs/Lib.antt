@@ -1,2 +1,3 @@
 pub mod Bytes
+pub mod Digits
 pub mod Prints

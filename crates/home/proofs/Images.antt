@@ -6,6 +6,14 @@ use Rattle.std.proofs.lemmas.List.{length-take, length-map, get_or-take, get_or-
 use Rattle.std.proofs.lemmas.List.FromFn.{length-map-range_with_len, get_or-map-range_with_len}
 use Rattle.home.specs.FrozenImage.{word_from, image_of}
 
+pub image-length : (bs : List ℕ) → length (image_of bs) ≡ min 65536 (length bs / 4)
+unfolding image_of
+image-length bs = length-map-range_with_len (λ c. word_from bs (4 * c)) 0 (min 65536 (length bs / 4))
+
+pub image-at : (bs : List ℕ) (c : ℕ) → c < min 65536 (length bs / 4) → get_or (image_of bs) c 0 ≡ word_from bs (4 * c)
+unfolding image_of
+image-at bs c h = get_or-map-range_with_len (λ c. word_from bs (4 * c)) 0 (min 65536 (length bs / 4)) c c 0 h (omega arith)
+
 -- four bytes in a row
 from-bytes : (bs : List ℕ) (i : ℕ) → from_be_bytes w32 (take 4 (drop i bs)) ≡ word_from bs i
 from-bytes bs i =
@@ -27,17 +35,16 @@ chunk-at (suc k) (suc c) bs h =
     chunk-at k c (drop 4 bs) (omega arith) ∙ ap (take 4) (drop-drop (4 * c) 4 bs ∙ ap (λ n. drop n bs) more)
 
 pub image-chunks : (bs : List ℕ) → map (from_be_bytes w32) (take 65536 (first_chunks 4 (length bs / 4) bs)) ≡ image_of bs
-unfolding image_of
 image-chunks bs =
     let chunks = first_chunks 4 (length bs / 4) bs in
     let many = length-chunks (length bs / 4) bs in
     let long = length-map (take 65536 chunks) (from_be_bytes w32) ∙ length-take 65536 chunks in
     ext_get_or 0 (map (from_be_bytes w32) (take 65536 chunks)) (image_of bs)
-    (long ∙ ap (min 65536) many ∙ sym (length-map-range_with_len (λ c. word_from bs (4 * c)) 0 (min 65536 (length bs / 4))))
+    (long ∙ ap (min 65536) many ∙ sym (image-length bs))
     (λ k h.
     get_or-map (from_be_bytes w32) (take 65536 chunks) k [] 0 (omega (arith, length-map (take 65536 chunks) (from_be_bytes w32)))
     ∙ ap (from_be_bytes w32) (get_or-take 65536 chunks k [] (omega (arith, long)) ∙ chunk-at (length bs / 4) k bs (omega (arith, long, many)))
     ∙ from-bytes bs (4 * k)
-    ∙ sym (get_or-map-range_with_len (λ c. word_from bs (4 * c)) 0 (min 65536 (length bs / 4)) k k 0 (omega (arith, long, many)) (omega arith)))
+    ∙ sym (image-at bs k (omega (arith, long, many))))
 
 pub ruleset image_laws = (image-chunks)

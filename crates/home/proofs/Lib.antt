@@ -1,3 +1,4 @@
+pub mod Answers
 pub mod Images
 pub mod Kept
 pub mod Lists

@@ -1,10 +1,9 @@
 -- Laws of `counted`, and what a source of words answers by `get`.
-use Rattle.std.proofs.Common.{◌≡◌, ℕ, ◌<◌, min, List, length, set, arith}
+use Rattle.std.proofs.Common.{◌≡◌, ℕ, zero, suc, ◌<◌, min, List, [], ◌∷◌, length, get_or, take, set, refl, ap, arith}
 use Rattle.std.specs.List.{slice_get}
 use Rattle.std.specs.Option.{ok_or}
-use Rattle.std.proofs.Math.Seq.{take-set-lt}
 use Rattle.std.proofs.lemmas.Grind.{common_steps}
-use Rattle.std.proofs.lemmas.List.{length-take}
+use Rattle.std.proofs.lemmas.List.{length-take, get_or-take}
 use Rattle.std.proofs.lemmas.Option.{gets}
 use Rattle.model.specs.declared.refusal.Refusal.TheVariants.{NoSuchCell}
 use Rattle.home.specs.WordHome.{counted}
@@ -17,8 +16,18 @@ pub counted-length : (ws : List ℕ) → length (counted ws) ≡ min 65536 (leng
 unfolding counted
 counted-length ws = length-take 65536 ws
 
-pub counted-set : (ws : List ℕ) (c w : ℕ) → c < 65536 → counted (set ws c w) ≡ set (counted ws) c w
+pub counted-at : (ws : List ℕ) (c : ℕ) → c < 65536 → get_or (counted ws) c 0 ≡ get_or ws c 0
 unfolding counted
-counted-set ws c w h = take-set-lt 65536 ws c w h
+counted-at ws c h = get_or-take 65536 ws c 0 h
+
+take-set : (n : ℕ) (ws : List ℕ) (c w : ℕ) → take n (set ws c w) ≡ set (take n ws) c w
+take-set zero ws c w = refl
+take-set (suc n) [] c w = refl
+take-set (suc n) (x ∷ xs) zero w = refl
+take-set (suc n) (x ∷ xs) (suc c) w = ap (λ l. x ∷ l) (take-set n xs c w)
+
+pub counted-set : (ws : List ℕ) (c w : ℕ) → counted (set ws c w) ≡ set (counted ws) c w
+unfolding counted
+counted-set ws c w = take-set 65536 ws c w
 
 pub ruleset counted_laws = (read_by_get, counted-length, counted-set)

@@ -1,10 +1,12 @@
 -- Laws of `overlay`: what a cell reads, and what one more write makes of it.
-use Rattle.std.proofs.Common.{◌≡◌, ℕ, ◌%◌, ◌<◌, true, ◌≢◌, List, length, get_or, set, replicate, Some, None, Option, unwrap_or, refl, arith}
+use Rattle.std.proofs.Common.{◌≡◌, ℕ, zero, suc, ◌%◌, ◌<◌, true, ◌≢◌, List, length, get_or, set, replicate, Some, None, Ok, Option, unwrap_or, sym, refl, ◌∙◌, subst, arith}
 use Rattle.std.proofs.lemmas.Grind.{common_steps}
 use Rattle.std.proofs.lemmas.List.{ext_get_or}
 use Rattle.std.proofs.lemmas.List.FromFn.{length-map-range_with_len, get_or-map-range_with_len}
 use Rattle.home.specs.declared.pair.Pair.{Pair}
+use Rattle.home.specs.Words.{read_at}
 use Rattle.home.specs.Buffer.{own, held_for, overlay, sent, pair_of}
+use Rattle.home.proofs.Answers.{read-in}
 
 pub overlay-length : (ws : List ℕ) (ps : List (Option Pair)) → length (overlay ws ps) ≡ length ws
 unfolding overlay
@@ -15,10 +17,31 @@ unfolding overlay
 overlay-at ws ps c h = get_or-map-range_with_len (λ c. unwrap_or (held_for (get_or ps (c % 8) None) c) (get_or ws c 0)) 0 (length ws) c c 0 h (omega arith)
 
 -- where no place holds anything
-pub overlay-none : (ws : List ℕ) → overlay ws (replicate 8 None) ≡ ws
-overlay-none ws =
-    ext_get_or 0 (overlay ws (replicate 8 None)) ws (overlay-length ws (replicate 8 None))
-    (λ k h. grind (arith, common_steps, overlay-length, overlay-at))
+pub overlay-none : (ws : List ℕ) (ps : List (Option Pair)) → ((i : ℕ) → get_or ps i None ≡ None) → overlay ws ps ≡ ws
+overlay-none ws ps none =
+    ext_get_or 0 (overlay ws ps) ws (overlay-length ws ps)
+    (λ k h.
+    let k-in : k < length ws = subst (λ n. k < n) (overlay-length ws ps) h in
+    overlay-at ws ps k k-in ∙ rw (none (k % 8)))
+
+pub get_or-nones : (n : ℕ) (i : ℕ) → get_or {A = Option Pair} (replicate n None) i None ≡ None
+get_or-nones zero i = refl
+get_or-nones (suc n) zero = refl
+get_or-nones (suc n) (suc i) = get_or-nones n i
+
+pub overlay_nones : (ws : List ℕ) → overlay ws (replicate 8 None) ≡ ws
+overlay_nones ws = overlay-none ws (replicate 8 None) (get_or-nones 8)
+
+module _ (ws : List ℕ) (ps : List (Option Pair)) (c : ℕ) (inside : c < length ws) where
+  inside-overlay : c < length (overlay ws ps)
+  inside-overlay = subst (λ n. c < n) (sym (overlay-length ws ps)) inside
+
+  pub read_held : (w : ℕ) → held_for (get_or ps (c % 8) None) c ≡ Some w → Ok w ≡ read_at (overlay ws ps) c
+  read_held w e = read-in (overlay ws ps) c w inside-overlay (overlay-at ws ps c inside ∙ rw e)
+
+  pub read_below : held_for (get_or ps (c % 8) None) c ≡ None → read_at ws c ≡ read_at (overlay ws ps) c
+  read_below e =
+      sym (read-in ws c (get_or ws c 0) inside refl) ∙ read-in (overlay ws ps) c (get_or ws c 0) inside-overlay (overlay-at ws ps c inside ∙ rw e)
 
 -- what is sent below
 
@@ -52,4 +75,4 @@ module _ (ws : List ℕ) (ps : List (Option Pair)) (c w : ℕ) (inside : c < len
       (grind (arith, common_steps, overlay-length, sent-length))
       (λ k h. grind (arith, common_steps, overlay-length, overlay-at, sent-length, reads k))
 
-pub ruleset overlays = (overlay-length, overlay-at, overlay-none, overlay-put)
+pub ruleset overlays = (overlay-length, overlay-at, overlay_nones, overlay-put)

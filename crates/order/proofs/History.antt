@@ -11,6 +11,9 @@ use Rattle.order.specs.Order.{LatestRelease, some_release, no_release}
 pub none-not-some : {e : Event} → ◌≡◌ {A = Option Event} None (Some e) → ⊥
 none-not-some p = cc
 
+pub some-event : {e f : Event} → ◌≡◌ {A = Option Event} (Some e) (Some f) → e ≡ f
+some-event p = cc
+
 pub nothing-not-some : {n : ℕ} → ◌≡◌ {A = Option ℕ} None (Some n) → ⊥
 nothing-not-some p = cc
 

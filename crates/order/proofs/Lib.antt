@@ -5,3 +5,4 @@ pub mod Legals
 pub mod Owners
 pub mod Sight
 pub mod Tests
+pub mod Writes

@@ -310,6 +310,10 @@ board-at (g ∷ h) zero e f a = cc
 board-at (g ∷ h) (suc zero) e f a = grind (arith, nat_tests)
 board-at (g ∷ h) (suc (suc n)) e f a = board-at h (suc n) e (and_parts (ltb g.board 8) (on_boards h) f).1 a
 
+pub writer-at : (h : List Event) (c n : ℕ) (e : Event) → At h n e → writer_of h c n ≡ writer_in c (Some e)
+writer-at h c zero e a = let w = at-within h 0 e a in absurd (omega arith)
+writer-at h c (suc n) e a = ap (writer_in c) a
+
 -- every writer is one of nine
 pub writer-low : (h : List Event) (c n p : ℕ) → on_boards h ≡ true → writer_of h c n ≡ Some p → p < 9
 writer-low h c zero p f q = let z = some_same q in omega arith

@@ -3,7 +3,7 @@ use Rattle.std.proofs.Common.{◌≡◌, ℕ, eqb, ◌⊎◌, List, None, sym, r
 use Rattle.std.proofs.lemmas.Bool.{eq-eqb, ne_eqb, cond-true, cond-false}
 use Rattle.model.specs.declared.event.Action.{Action}
 use Rattle.model.specs.declared.event.Event.{Event}
-use Rattle.order.specs.Order.{At, next, more, AcquireOf, ReleaseOf, Owns}
+use Rattle.order.specs.Order.{At, next, more, AcquireOf, ReleaseOf, Owns, Disciplined}
 use Rattle.order.specs.Test.{owner_by, owner_of}
 use Rattle.order.proofs.History.{none-not-some, nothing-not-some, acquire-not-release, write-not-acquire, write-not-release, at-within, at-inv}
 use Rattle.order.proofs.Owners.{owns-up, owns-old, owner-more, owner-tells}
@@ -76,6 +76,10 @@ pub run-disciplined : {c start : ℕ} {h : List Event} {ms : List Move} {s : Cel
 run-disciplined (opens o) = record { acquires = λ n e a. absurd (none-not-some a); releases = λ n e a. absurd (none-not-some a) }
 run-disciplined {c} (makes {h} m r v) = disciplined-move c h m (run-owner r) v (run-disciplined r)
 run-disciplined {c} (elsewhere {h} e far r v) = disciplined-more h e c (λ is. absurd (far is.0)) (λ is. absurd (far is.0)) (run-disciplined r)
+
+-- a history that keeps to ownership at every cell
+pub disciplined-everywhere : (h : List Event) → ((c : ℕ) → DisciplinedAt h c) → Disciplined h
+disciplined-everywhere h d = record { acquires = λ n e a is. (d e.cell).acquires n e a (refl, is); releases = λ n e a is. (d e.cell).releases n e a (refl, is) }
 
 pub owners-kept : OwnersKept
 owners-kept c start h ms s r = record { machine = run-owner r; moves = moves-owner r; disciplined = run-disciplined r }
