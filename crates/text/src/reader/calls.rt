@@ -26,6 +26,7 @@ impl<'a> Reader<'a> {
         }
     }
 
+    #[tactic(auto, using(crate::proofs::Cuts::none_left))]
     pub fn at_end(&self) -> bool
         ensures { result ≡ no_lines (lines_ahead self.now) }
     {
