@@ -16,3 +16,7 @@ pub record IsWhole {H P : Type 0} (Words : H → List ℕ) (Lines : P → List (
   pub lines : b.state.lines ≡ Lines b.path
   pub long : b.state.long ≡ n
   pub sound : Sound b.state
+
+-- the same of a bench before a call and after it
+abbrev pub StaysWhole : {H P : Type 0} → (H → List ℕ) → (P → List (List Carry)) → ℕ → Seen H P → Seen H P → Type 0
+StaysWhole Words Lines n b c = IsWhole Words Lines n b × IsWhole Words Lines n c

@@ -6,7 +6,7 @@ ghost use Rattle.state.specs.Runs.{Carries, traffic_of};
 ghost use Rattle.state.specs.Sound.{Sound};
 ghost use Rattle.state.specs.Steps.{Takes};
 ghost use Rattle.engine.specs.Benches.{is_refused};
-ghost use Rattle.engine.specs.Seen.{IsWhole};
+ghost use Rattle.engine.specs.Seen.{StaysWhole};
 
 use super::Bench;
 use home::source::Home;
@@ -24,7 +24,7 @@ impl<H: Home, P: Path> Bench<H, P> {
         ensures step { Takes self.old.state (Read board cell) (word_answer result) self.new.state }
         ensures path { Carries P.Path.starts P.Path.lands self.old.path (traffic_of self.old.state (Read board cell) (word_answer result)) self.new.path }
         ensures refused { is_ok result ≡ false → self.new ≡ self.old }
-        ensures whole { IsWhole H.Source.words P.Path.lines P.Path.LENGTH self.old × IsWhole H.Source.words P.Path.lines P.Path.LENGTH self.new }
+        ensures whole { StaysWhole H.Source.words P.Path.lines P.Path.LENGTH self.old self.new }
     {
         self.whole();
         let at = self.checked(board, cell)?;
@@ -38,7 +38,7 @@ impl<H: Home, P: Path> Bench<H, P> {
         ensures step { Takes self.old.state (Write board cell word) (done_answer result) self.new.state }
         ensures path { Carries P.Path.starts P.Path.lands self.old.path (traffic_of self.old.state (Write board cell word) (done_answer result)) self.new.path }
         ensures refused { is_ok result ≡ false → self.new ≡ self.old }
-        ensures whole { IsWhole H.Source.words P.Path.lines P.Path.LENGTH self.old × IsWhole H.Source.words P.Path.lines P.Path.LENGTH self.new }
+        ensures whole { StaysWhole H.Source.words P.Path.lines P.Path.LENGTH self.old self.new }
     {
         self.whole();
         let at = self.checked(board, cell)?;
@@ -52,7 +52,7 @@ impl<H: Home, P: Path> Bench<H, P> {
         ensures step { Takes self.old.state (Acquire board cell) (done_answer result) self.new.state }
         ensures path { Carries P.Path.starts P.Path.lands self.old.path (traffic_of self.old.state (Acquire board cell) (done_answer result)) self.new.path }
         ensures refused { is_ok result ≡ false → self.new ≡ self.old }
-        ensures whole { IsWhole H.Source.words P.Path.lines P.Path.LENGTH self.old × IsWhole H.Source.words P.Path.lines P.Path.LENGTH self.new }
+        ensures whole { StaysWhole H.Source.words P.Path.lines P.Path.LENGTH self.old self.new }
     {
         self.whole();
         let at = self.checked(board, cell)?;
@@ -66,7 +66,7 @@ impl<H: Home, P: Path> Bench<H, P> {
         ensures step { Takes self.old.state (Release board cell) (done_answer result) self.new.state }
         ensures path { Carries P.Path.starts P.Path.lands self.old.path (traffic_of self.old.state (Release board cell) (done_answer result)) self.new.path }
         ensures refused { is_ok result ≡ false → self.new ≡ self.old }
-        ensures whole { IsWhole H.Source.words P.Path.lines P.Path.LENGTH self.old × IsWhole H.Source.words P.Path.lines P.Path.LENGTH self.new }
+        ensures whole { StaysWhole H.Source.words P.Path.lines P.Path.LENGTH self.old self.new }
     {
         self.whole();
         let at = self.checked(board, cell)?;
@@ -80,7 +80,7 @@ impl<H: Home, P: Path> Bench<H, P> {
         ensures step { Takes self.old.state (WriteBack board cell) (done_answer result) self.new.state }
         ensures path { Carries P.Path.starts P.Path.lands self.old.path (traffic_of self.old.state (WriteBack board cell) (done_answer result)) self.new.path }
         ensures refused { is_ok result ≡ false → self.new ≡ self.old }
-        ensures whole { IsWhole H.Source.words P.Path.lines P.Path.LENGTH self.old × IsWhole H.Source.words P.Path.lines P.Path.LENGTH self.new }
+        ensures whole { StaysWhole H.Source.words P.Path.lines P.Path.LENGTH self.old self.new }
     {
         self.whole();
         let at = self.checked(board, cell)?;
@@ -94,7 +94,7 @@ impl<H: Home, P: Path> Bench<H, P> {
         ensures step { Takes self.old.state (Eject board cell) (done_answer result) self.new.state }
         ensures path { Carries P.Path.starts P.Path.lands self.old.path (traffic_of self.old.state (Eject board cell) (done_answer result)) self.new.path }
         ensures refused { is_ok result ≡ false → self.new ≡ self.old }
-        ensures whole { IsWhole H.Source.words P.Path.lines P.Path.LENGTH self.old × IsWhole H.Source.words P.Path.lines P.Path.LENGTH self.new }
+        ensures whole { StaysWhole H.Source.words P.Path.lines P.Path.LENGTH self.old self.new }
     {
         self.whole();
         let at = self.checked(board, cell)?;
@@ -108,7 +108,7 @@ impl<H: Home, P: Path> Bench<H, P> {
         ensures step { Takes self.old.state Land (land_answer result) self.new.state }
         ensures path { Carries P.Path.starts P.Path.lands self.old.path (traffic_of self.old.state Land (land_answer result)) self.new.path }
         ensures refused { is_ok result ≡ false → self.new ≡ self.old }
-        ensures whole { IsWhole H.Source.words P.Path.lines P.Path.LENGTH self.old × IsWhole H.Source.words P.Path.lines P.Path.LENGTH self.new }
+        ensures whole { StaysWhole H.Source.words P.Path.lines P.Path.LENGTH self.old self.new }
     {
         self.whole();
         let answer = self.land_next();
@@ -140,7 +140,7 @@ impl<H: Home, P: Path> Bench<H, P> {
         ensures sound { Sound self.old.state × Sound self.new.state }
         ensures path { Carries P.Path.starts P.Path.lands self.old.path (traffic_of self.old.state step result) self.new.path }
         ensures refused { is_refused result ≡ true → self.new ≡ self.old }
-        ensures whole { IsWhole H.Source.words P.Path.lines P.Path.LENGTH self.old × IsWhole H.Source.words P.Path.lines P.Path.LENGTH self.new }
+        ensures whole { StaysWhole H.Source.words P.Path.lines P.Path.LENGTH self.old self.new }
     {
         self.whole();
         let answer = self.take(step);

@@ -57,6 +57,7 @@ impl<H: Home, P: Path> Bench<H, P> {
         ensures home { result.now ≡ self.now.home }
         ensures whole { IsWhole H.Source.words P.Path.lines P.Path.LENGTH self.now }
     {
+        self.whole();
         &self.home
     }
 }

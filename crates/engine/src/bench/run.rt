@@ -1,6 +1,6 @@
 ghost use Rattle.std.specs.Prelude.{◌≡◌, ◌<◌, ◌≤◌, false, length, take, is_ok, slice_set};
 ghost use Rattle.state.specs.Runs.{RanAll, Ran, Course, Went};
-ghost use Rattle.engine.specs.Seen.{IsWhole};
+ghost use Rattle.engine.specs.Seen.{StaysWhole};
 
 use super::Bench;
 use home::source::Home;
@@ -17,7 +17,7 @@ impl<H: Home, P: Path> Bench<H, P> {
         ensures run { Ran self.old.state steps.now answers.old result answers.new self.new.state }
         ensures path { Went P.Path.starts P.Path.lands self.old.state self.old.path steps.now result answers.new self.new.state self.new.path }
         ensures refused { is_ok result ≡ false → self.new ≡ self.old }
-        ensures whole { IsWhole H.Source.words P.Path.lines P.Path.LENGTH self.old × IsWhole H.Source.words P.Path.lines P.Path.LENGTH self.new }
+        ensures whole { StaysWhole H.Source.words P.Path.lines P.Path.LENGTH self.old self.new }
     {
         self.whole();
         if answers.len() < steps.len() {
